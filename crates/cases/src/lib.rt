@@ -1,4 +1,6 @@
 // Examples of the rules, as one listing with one proof over it.
+#![tactic(auto)]
+
 ghost use Rattle.std.specs.Prelude.{◌≡◌, ℕ};
 ghost use Rattle.cases.specs.Listing.{ExamplesHold};
 

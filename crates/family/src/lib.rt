@@ -1,4 +1,6 @@
 // The vocabulary that a family of problems and a search share, and the interface between them.
+#![tactic(auto)]
+
 ghost use Rattle.std.specs.Prelude.{◌≡◌};
 ghost use Rattle.family.specs.Meaning.{Meaning, Laws};
 ghost use Rattle.family.specs.Points.{any_point, any_proof};

@@ -1,4 +1,6 @@
 // The problem file: a draft of a family and the calls to make, as records of twenty words.
+#![tactic(auto)]
+
 pub mod call;
 pub mod contents;
 pub mod fault;

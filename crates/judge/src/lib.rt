@@ -1,4 +1,6 @@
 // From the bytes of a file to a verdict.
+#![tactic(auto)]
+
 pub mod judged;
 pub mod judging;
 mod making;

@@ -1,4 +1,6 @@
 // A problem and the draft that it grows in.
+#![tactic(auto)]
+
 pub mod cost;
 pub mod draft;
 mod header;

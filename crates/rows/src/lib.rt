@@ -1,4 +1,6 @@
 // Row values, positions and which row stops a point.
+#![tactic(auto)]
+
 ghost use Rattle.std.specs.Prelude.{◌≡◌, ℕ, ◌<◌, ◌≤◌, ℤ, IfSome, unsigned_abs};
 ghost use Rattle.family.specs.Points.{any_point};
 ghost use Rattle.family.specs.Reading.{side_of};

@@ -1,4 +1,6 @@
 // The search over any family of problems: from offers that nobody trusts to a verdict that cannot be false.
+#![tactic(auto)]
+
 pub mod advice;
 mod compare;
 mod frontier;

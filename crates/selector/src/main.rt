@@ -1,4 +1,6 @@
 // Shows what both families answer to points and proofs of a sample problem.
+#![tactic(auto)]
+
 use family::Family;
 use family::fault::Fault;
 use family::judgement::Judgement;

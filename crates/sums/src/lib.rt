@@ -1,4 +1,6 @@
 // Theory alone: finite sums of whole numbers over any number of rows and columns.
+#![tactic(auto)]
+
 ghost use Rattle.std.specs.Prelude.{ℕ, ◌≡◌};
 ghost use Rattle.sums.specs.Duality.{Exchange, WeakDuality};
 

@@ -1,4 +1,6 @@
 // Reads a problem file from standard input and prints what became of each call, and the verdict.
+#![tactic(auto)]
+
 ghost use Rattle.std.specs.Prelude.{ℕ, ◌≤◌, IfOk};
 
 use file::fault::FileFault;
