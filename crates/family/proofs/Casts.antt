@@ -3,7 +3,7 @@ use Rattle.std.proofs.Common.{◌≡◌, ℕ, zero, suc, ◌+◌, ◌*◌, ◌^�
 use borrow.Author.Differences.{ints}
 use mir.Syntax.{Width}
 use Rattle.std.proofs.lemmas.Int.{to_z-of_z}
-use Rattle.std.proofs.lemmas.Nat.{mul_le}
+use Rattle.std.proofs.lemmas.Nat.{mul-le}
 
 natAbs_neg : (z : ℤ) → nat_abs (neg_ℤ z) ≡ nat_abs z
 natAbs_neg z = omega (arith, ints)
@@ -15,7 +15,7 @@ nat_abs_mul (negsuc a) (pos b) = natAbs_neg (pos (suc a * b))
 nat_abs_mul (negsuc a) (negsuc b) = refl
 
 pub product_near : (m n : ℕ) (a b : ℤ) → nat_abs a ≤ m → nat_abs b ≤ n → nat_abs (a *ℤ b) ≤ m * n
-product_near m n a b h k = omega (arith, nat_abs_mul a b, mul_le (nat_abs a) (nat_abs b) m n h k)
+product_near m n a b h k = omega (arith, nat_abs_mul a b, mul-le (nat_abs a) (nat_abs b) m n h k)
 
 -- ---- the code's casts
 -- a number that goes to the bits of the width w and is read again

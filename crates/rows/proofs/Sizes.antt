@@ -1,7 +1,7 @@
 -- How large the dual quantities of an offered proof can be.
 use Rattle.std.proofs.Common.{◌≡◌, ℕ, ◌*◌, ◌<◌, ◌≤◌, Bool, true, false, cond, ltb, ℤ, pos, ◌*ℤ◌, nat_abs, Some, None, Option, sym, refl, subst, arith}
 use lib.Signed.{lt_z}
-use Rattle.std.proofs.lemmas.Nat.{mul_le}
+use Rattle.std.proofs.lemmas.Nat.{mul-le}
 use Rattle.family.specs.declared.side.Side.{Side}
 use Rattle.family.specs.declared.side.Side.TheVariants.{Lower, Upper}
 use Rattle.family.specs.Points.{AnyProof, OfferedProof}
@@ -35,7 +35,7 @@ met_near p s y i =
     (end_near ((program p).kind i) (s i) _ _ _ (p.low i) (p.high i) (p.high i)) (end_near ((program p).kind i) (s i) _ _ _ (p.low i) (p.high i) (p.low i))
 
 rows_near : (m b : ℕ) (z : ℤ) → m ≤ 16 → nat_abs z ≤ m * b → nat_abs z ≤ 16 * b
-rows_near m b z h k = let same : b ≤ b = omega arith in omega (arith, mul_le m b 16 b h same)
+rows_near m b z h k = let same : b ≤ b = omega arith in omega (arith, mul-le m b 16 b h same)
 
 pub column_near : (p : Problem) (y : AnyProof) (j : ℕ) → OfferedProof y → nat_abs (column_sum (program p) y.y j) ≤ 800000
 column_near p y j o =
@@ -51,4 +51,4 @@ pub sum_near : (p : Problem) (b : ℕ) (f : ℕ → ℤ) → ((k : ℕ) → nat_
 sum_near p b f h = eight p.n (total p.n f) p.few (total_near b p.n f (λ k l. h k))
   where
     eight : (n : ℕ) (z : ℤ) → n ≤ 8 → nat_abs z ≤ n * b → nat_abs z ≤ 8 * b
-    eight n z l k = let same : b ≤ b = omega arith in omega (arith, mul_le n b 8 b l same)
+    eight n z l k = let same : b ≤ b = omega arith in omega (arith, mul-le n b 8 b l same)

@@ -4,10 +4,10 @@ use Rattle.std.proofs.Common.{sym, ◌∙◌, ap, subst, arith, mul-le-mul_left}
 use Rattle.std.proofs.lemmas.Int.{ints}
 use Rattle.std.proofs.Math.IntN.{*ℤ_comm}
 use Rattle.std.specs.Int.Signed.{le_z, lt_z}
-use Rattle.std.proofs.lemmas.Nat.{mul_le}
+use Rattle.std.proofs.lemmas.Nat.{mul-le}
 use Rattle.sums.specs.Sums.{total, dot}
 use Rattle.sums.specs.Duality.{Within, column, level}
-use Rattle.sums.proofs.Ring.{diff_of, diff_same, as-diff, square_sum, square_le, mul_le as scaled-le, linear}
+use Rattle.sums.proofs.Ring.{diff_of, diff_same, as-diff, square_sum, square_le, mul-le as scaled-le, linear}
 use Rattle.sums.proofs.Totals.{total_le, total_add, total_scale, total_same, total_zero}
 use Rattle.sums.proofs.Dual.{weak_duality}
 use Rattle.family.specs.declared.fault.ProofFault.{ProofFault}
@@ -95,7 +95,7 @@ no_fault false f e = let c : ◌≡◌ {A = ℕ} 0 1 = cc in omega arith
 
 -- ---- sizes
 square_size : (q b : ℕ) → 0 < q → q ≤ b → (pos 1 ≤ℤ pos (q * q)) × (pos (q * q) ≤ℤ pos (b * b))
-square_size (suc q) b h l = (omega (arith, ints), omega (arith, ints, mul_le (suc q) (suc q) b b l l))
+square_size (suc q) b h l = (omega (arith, ints), omega (arith, ints, mul-le (suc q) (suc q) b b l l))
 square_size zero b h l = let no : ⊥ = omega arith in elim no [ ]
 
 fair_price : (p : Problem) (x : AnyPoint) → OfferedPoint x → Fair (cost (program p) x)

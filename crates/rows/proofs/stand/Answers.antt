@@ -3,8 +3,8 @@ use Rattle.family.proofs.Casts.{result_back}
 use Rattle.rows.proofs.Places.{end_scaled}
 use Rattle.rows.proofs.stand.Goals as goal
 
-pub invariant-of-result : goal.invariant-of-result
-invariant-of-result c =
+pub invariant_of-result : goal.invariant_of-result
+invariant_of-result c =
     let v = result_back 400000000 c.value.ensures.value c.value.ensures.near (omega arith) in (
       subst (λ z. nat_abs z ≤ 400000000) (sym v) (subst (λ z. nat_abs z ≤ 400000000) c.value.ensures.value c.value.ensures.near),
       (

@@ -9,7 +9,7 @@ loop-i-init c = span_none _ _
 
 pub loop-i-preserved : goal.loop-i-preserved
 loop-i-preserved c =
-    span_turn (word c.args.bytes.now) c.args.k c.loop-i.i c.loop-i.place (omega arith) c.loop-i.invariant (read_back c.get.ensures c.get.type-inv)
+    span_turn (word c.args.bytes.now) c.args.k c.loop-i.i c.loop-i.place (omega arith) c.loop-i.invariant (read_back c.get.ensures c.get.type_inv)
 
 pub returns : goal.returns
 returns c =

@@ -3,4 +3,4 @@ use Rattle.file.proofs.Bytes.{get_four}
 use Rattle.file.proofs.words.get.Goals as goal
 
 pub returns : goal.returns
-returns c = get_four c.args.bytes.now _ c.args.k (search rules) refl c.from-le-bytes.ensures
+returns c = get_four c.args.bytes.now _ c.args.k (search rules) refl c.from_le_bytes.ensures

@@ -10,14 +10,14 @@ loop-i-init g c = rows_none _ _ _
 
 pub loop-i-preserved : goal.loop-i-preserved
 loop-i-preserved g c =
-    let eleven : length c.row-list.result ≡ 11 = search rules in
-    rows_turn _ _ _ _ (listed_row (data_of c.args.draft.now)) c.loop-i.i c.loop-i.invariant c.put-row.ensures c.row-list.ensures eleven
+    let eleven : length c.row_list.result ≡ 11 = search rules in
+    rows_turn _ _ _ _ (listed_row (data_of c.args.draft.now)) c.loop-i.i c.loop-i.invariant c.put_row.ensures c.row_list.ensures eleven
 
 pub returns : goal.returns
 returns g c =
-    let ten : length c.header-list.result ≡ 10 = search rules in
+    let ten : length c.header_list.result ≡ 10 = search rules in
     record {
-      answer = long_enough (length c.args.place.now) c.row-count-m.ensures.value c.if-place-m.false;
-      written = rows_written _ _ _ c.loop-i.i (listed_row (data_of c.args.draft.now)) c.row-count-m.ensures.value (to_z-of_z w32 c.args.family c.ranges.family) c.header-list.ensures
-          c.loop-i-test.false c.loop-i.auto.i-end ten c.put-head.ensures c.loop-i.invariant;
+      answer = long_enough (length c.args.place.now) c.row_count-m.ensures.value c.if-place-m.false;
+      written = rows_written _ _ _ c.loop-i.i (listed_row (data_of c.args.draft.now)) c.row_count-m.ensures.value (to_z-of_z w32 c.args.family c.ranges.family) c.header_list.ensures
+          c.loop-i-test.false c.loop-i.auto.i-end ten c.put_head.ensures c.loop-i.invariant;
     }

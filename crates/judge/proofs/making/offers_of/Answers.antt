@@ -10,8 +10,8 @@ pub loop-index-preserved : goal.loop-index-preserved
 loop-index-preserved c =
     let inv = c.loop-index.invariant in
     let h : c.loop-index.index < length c.loop-index.offers = omega (arith, inv.0, c.requires) in (
-      length-set c.loop-index.offers c.loop-index.index c.offer-of.result ∙ inv.0,
-      one_more c.loop-index.offers c.args.calls.now c.loop-index.index c.offer-of.result _ h c.loop-index-test.true c.offer-of.ensures inv.1,
+      length-set c.loop-index.offers c.loop-index.index c.offer_of.result ∙ inv.0,
+      one_more c.loop-index.offers c.args.calls.now c.loop-index.index c.offer_of.result _ h c.loop-index-test.true c.offer_of.ensures inv.1,
     )
 
 pub returns : goal.returns

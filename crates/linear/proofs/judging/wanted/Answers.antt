@@ -3,11 +3,11 @@ use borrow.Author.Differences.{ints}
 use Rattle.linear.specs.Balances.{scaled_rate}
 use Rattle.linear.proofs.judging.wanted.Goals as goal
 
-pub overflow-mul-result : goal.overflow-mul-result
-overflow-mul-result c = (scaled_rate c.args.scale c.args.rate c.requires.scale c.requires.rate).fits
+pub overflow_mul-result : goal.overflow_mul-result
+overflow_mul-result c = (scaled_rate c.args.scale c.args.rate c.requires.scale c.requires.rate).fits
 
-pub overflow-sub-result : goal.overflow-sub-result
-overflow-sub-result c = omega (arith, ints, (scaled_rate c.args.scale c.args.rate c.requires.scale c.requires.rate).near)
+pub overflow_sub-result : goal.overflow_sub-result
+overflow_sub-result c = omega (arith, ints, (scaled_rate c.args.scale c.args.rate c.requires.scale c.requires.rate).near)
 
 pub returns : goal.returns
 returns c =

@@ -11,12 +11,12 @@ loop-column-init c = filled_none (column_sum (program c.args.problem.now) (multi
 
 pub loop-column-preserved : goal.loop-column-preserved
 loop-column-preserved c =
-    let is = result_back 800000 c.column-sum.ensures.value c.column-sum.ensures.near (omega arith) in
+    let is = result_back 800000 c.column_sum.ensures.value c.column_sum.ensures.near (omega arith) in
     filled_more (column_sum (program c.args.problem.now) (multiplier_of c.args.proof.now)) c.loop-column.column c.loop-column.sums (omega (arith, c.quantities-n.ensures.few)) is
-    (subst (λ z. nat_abs z ≤ 800000) (sym is) (subst (λ z. nat_abs z ≤ 800000) c.column-sum.ensures.value c.column-sum.ensures.near)) c.loop-column.invariant
+    (subst (λ z. nat_abs z ≤ 800000) (sym is) (subst (λ z. nat_abs z ≤ 800000) c.column_sum.ensures.value c.column_sum.ensures.near)) c.loop-column.invariant
 
-pub invariant-of-result : goal.invariant-of-result
-invariant-of-result c = (c.quantities-n.ensures.few, (c.loop-column.invariant.near, tt))
+pub invariant_of-result : goal.invariant_of-result
+invariant_of-result c = (c.quantities-n.ensures.few, (c.loop-column.invariant.near, tt))
 
 pub returns : goal.returns
 returns c = record { count = c.quantities-n.ensures.value; sums = λ j h. c.loop-column.invariant.done j (omega arith) }

@@ -41,10 +41,10 @@ returns g c =
     let offers = c.args.offers.now in
     let i = c.loop-index.index in
     let e : i ≡ length offers = omega arith in
-    let told : c.in-ok-report.report ≡ report_in s.inner = ok_same c.in-ok-report.ensures.answer ∙ ap (λ (x : Search g.row.F.Denot). report_in x.inner) c.stop-stopped.ensures.same in
+    let told : c.in_ok-report.report ≡ report_in s.inner = ok_same c.in_ok-report.ensures.answer ∙ ap (λ (x : Search g.row.F.Denot). report_in x.inner) c.stop-stopped.ensures.same in
     let filled : c.read.new.place ≡ numbers_in s.inner = c.read.ensures.place ∙ ap (λ (x : Search g.row.F.Denot). numbers_in x.inner) c.stop-stopped.ensures.same in
     record {
       denied = sym (eq-eqb _ _ c.if-outcomes-offers.false);
-      ran = ran_at m s₀.family c.args.family s₀.gap c.args.gap (calls_in offers) c.in-ok-report.report c.read.new.place c.loop-index.outcomes c.open-search.ensures.family c.open-search.ensures.gap
-          (all_done (m s₀.family) (g.met.F.Family.kept s₀.family) (gap_value s₀.gap) offers i s.inner c.loop-index.outcomes c.in-ok-report.report c.read.new.place e inv.0 told filled inv.3);
+      ran = ran_at m s₀.family c.args.family s₀.gap c.args.gap (calls_in offers) c.in_ok-report.report c.read.new.place c.loop-index.outcomes c.open-search.ensures.family c.open-search.ensures.gap
+          (all_done (m s₀.family) (g.met.F.Family.kept s₀.family) (gap_value s₀.gap) offers i s.inner c.loop-index.outcomes c.in_ok-report.report c.read.new.place e inv.0 told filled inv.3);
     }

@@ -3,18 +3,18 @@ use Rattle.std.proofs.lemmas.List.{take_rest}
 use Rattle.family.specs.Numbers.{at}
 use Rattle.family.proofs.Scans.{Scaled, proof_read}
 use Rattle.family.proofs.proof.Proof.read.Goals as goal
-use Rattle.family.proofs.proof.Proof.read.Goals.{After-unsigned-abs, at·returns}
+use Rattle.family.proofs.proof.Proof.read.Goals.{After-unsigned_abs, at-returns}
 
-whole : (c : After-unsigned-abs) → Scaled 1000 c.args.list.now c.unsigned-abs.result c.copy-from-slice.new.self
+whole : (c : After-unsigned_abs) → Scaled 1000 c.args.list.now c.unsigned_abs.result c.copy_from_slice.new.self
 whole c =
-    let rest : c.copy-from-slice.new.self ≡ drop 1 c.args.list.now = c.copy-from-slice.ensures.after ∙ take_rest c.args.list.now 1 in
-    let head : c.unsigned-abs.result ≡ nat_abs (at c.args.list.now 0) = search rules in
-    proof_read c.args.m c.args.list.now c.in-ok-judge.ensures head rest
+    let rest : c.copy_from_slice.new.self ≡ drop 1 c.args.list.now = c.copy_from_slice.ensures.after ∙ take_rest c.args.list.now 1 in
+    let head : c.unsigned_abs.result ≡ nat_abs (at c.args.list.now 0) = search rules in
+    proof_read c.args.m c.args.list.now c.in_ok-judge.ensures head rest
 
-pub invariant-of-result : goal.invariant-of-result
-invariant-of-result c = let w = whole c in (w.positive, (w.fine, (w.near, tt)))
+pub invariant_of-result : goal.invariant_of-result
+invariant_of-result c = let w = whole c in record { positive = w.positive; fine = w.fine; near = w.near }
 
 pub returns : goal.returns
 returns c =
-    let w = whole (at·returns c).After-unsigned-abs in
-    (sym c.in-ok-judge.ensures, record { head = w.head; rest = w.rest })
+    let w = whole (at-returns c).After-unsigned_abs in
+    (sym c.in_ok-judge.ensures, record { head = w.head; rest = w.rest })

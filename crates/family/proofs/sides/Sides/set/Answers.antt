@@ -2,7 +2,7 @@ use Rattle.std.proofs.Common.{◌<◌, rules}
 use Rattle.std.proofs.lemmas.Nat.{one_shl}
 use Rattle.family.proofs.Bits.{Moved, to_lower, to_upper, on_way}
 use Rattle.family.proofs.sides.Sides.set.Goals as goal
-use Rattle.family.proofs.sides.Sides.set.Goals.{in-Lower, in-Upper, Joined-side, at·returns}
+use Rattle.family.proofs.sides.Sides.set.Goals.{in-Lower, in-Upper, Joined-side, at-returns}
 
 -- either way
 moved : (c : Joined-side) → Moved c.args.self.lower c.args.self.upper c.match-side.result.0 c.match-side.result.1.0 c.args.row c.args.side
@@ -18,8 +18,8 @@ moved c =
       | in-Upper w ↦ on_way w.result-is w.in-Upper.is (to_upper a b r _ one small large c.requires c.args.self.apart)
     ]
 
-pub invariant-of-result : goal.invariant-of-result
-invariant-of-result c = ((moved c).apart, tt)
+pub invariant_of-result : goal.invariant_of-result
+invariant_of-result c = record { apart = (moved c).apart }
 
 pub returns : goal.returns
-returns c = (moved (at·returns c).Joined-side).reads
+returns c = (moved (at-returns c).Joined-side).reads

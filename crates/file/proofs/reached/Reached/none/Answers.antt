@@ -3,6 +3,6 @@ use Rattle.file.specs.Chains.{has}
 use Rattle.file.proofs.Tables.{no_flag, left_replicate}
 use Rattle.file.proofs.reached.Reached.none.Goals as goal
 
-pub invariant-of-result : goal.invariant-of-result
+pub invariant_of-result : goal.invariant_of-result
 unfolding has
-invariant-of-result c = (no_flag 819, (zero-add _ ∙ left_replicate 819, (zero-le, tt)))
+invariant_of-result c = (no_flag 819, (zero-add _ ∙ left_replicate 819, (zero-le, tt)))

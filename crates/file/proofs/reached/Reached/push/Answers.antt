@@ -7,8 +7,8 @@ bounds-self-self c =
     let self = c.args.self.now in
     room self.count self.seen c.args.k 819 c.requires.below (search rules) self.room (self.marks c.args.k ∙ c.requires.fresh)
 
-pub invariant-of-self : goal.invariant-of-self
-invariant-of-self c =
+pub invariant_of-self : goal.invariant_of-self
+invariant_of-self c =
     let self = c.args.self.now in
     let p = pushed self.at self.seen self.count c.args.k 819 c.requires.below (search rules) (search rules) self.marks self.room c.requires.fresh in
     (p.marks, (p.room, (p.small, tt)))

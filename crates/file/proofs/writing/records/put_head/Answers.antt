@@ -5,4 +5,4 @@ use Rattle.file.proofs.writing.records.put_head.Goals as goal
 pub returns : goal.returns
 returns c =
     head_puts _ _ _ _ _ _ c.args.m c.args.family c.args.header.now c.requires.ten c.put.ensures (search rules) c.put-2.ensures refl c.put-3.ensures (search rules)
-    c.put-list.ensures c.put-zeros.ensures
+    c.put_list.ensures c.put_zeros.ensures

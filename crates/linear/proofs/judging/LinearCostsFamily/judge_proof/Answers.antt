@@ -9,14 +9,14 @@ use Rattle.linear.specs.Bounds.{bound}
 use Rattle.linear.specs.Laws.{judged_void, judged_off, off_read, minus_read}
 use Rattle.linear.proofs.judging.LinearCostsFamily.judge_proof.Goals as goal
 
-pub returns-then-is-void : goal.returns-then-is-void
-returns-then-is-void c =
+pub returns-then-is_void : goal.returns-then-is_void
+returns-then-is_void c =
     let P = program c.args.self.now.problem in
     let s = side_of c.args.sides in
     let y = multiplier_of c.args.proof.now in
     let l = result_back 160000000 c.level-level.ensures.value c.level-level.ensures.near (omega arith) in
     judged_void P (at c.args.self.now.rates.rates) s (scale_of c.args.proof.now) y
-    (sym (void_read P s y c.column-sums-columns.result.sums c.column-sums-columns.ensures.count c.column-sums-columns.ensures.sums l) ∙ sym c.if-is-void.ensures)
+    (sym (void_read P s y c.column_sums-columns.result.sums c.column_sums-columns.ensures.count c.column_sums-columns.ensures.sums l) ∙ sym c.if-is_void.ensures)
 
 pub returns-in-None : goal.returns-in-None
 returns-in-None c =
@@ -29,8 +29,8 @@ returns-in-None c =
     let top = minus_read l (subst (λ z. nat_abs z ≤ 160000000) c.level-level.ensures.value c.level-level.ensures.near) in
     let below = result_back 1000 c.scale.ensures.value c.scale.ensures.small (omega arith) in
     judged_off P rates s scale y
-    (sym (void_read P s y c.column-sums-columns.result.sums c.column-sums-columns.ensures.count c.column-sums-columns.ensures.sums l) ∙ sym c.if-is-void.ensures)
-    (off_read P rates s scale y c.column-sums-columns.result.sums c.column-sums-columns.ensures.sums c.in-None.ensures.least)
+    (sym (void_read P s y c.column_sums-columns.result.sums c.column_sums-columns.ensures.count c.column_sums-columns.ensures.sums l) ∙ sym c.if-is_void.ensures)
+    (off_read P rates s scale y c.column_sums-columns.result.sums c.column_sums-columns.ensures.sums c.in-None.ensures.least)
     (λ i. (top i, below i))
 
 pub returns-in-Some : goal.returns-in-Some
@@ -42,6 +42,6 @@ returns-in-Some c =
     let y = multiplier_of c.args.proof.now in
     let l = result_back 160000000 c.level-level.ensures.value c.level-level.ensures.near (omega arith) in
     judged_off P rates s scale y
-    (sym (void_read P s y c.column-sums-columns.result.sums c.column-sums-columns.ensures.count c.column-sums-columns.ensures.sums l) ∙ sym c.if-is-void.ensures)
-    (off_read P rates s scale y c.column-sums-columns.result.sums c.column-sums-columns.ensures.sums c.in-Some.ensures.least)
+    (sym (void_read P s y c.column_sums-columns.result.sums c.column_sums-columns.ensures.count c.column_sums-columns.ensures.sums l) ∙ sym c.if-is_void.ensures)
+    (off_read P rates s scale y c.column_sums-columns.result.sums c.column_sums-columns.ensures.sums c.in-Some.ensures.least)
     (refl {a = bound P s scale y})

@@ -9,8 +9,8 @@ use Rattle.linear.proofs.linear_costs.LinearCosts.from_draft.Goals as goal
 
 pub returns : goal.returns
 returns c = record {
-  problem = c.into-parts.ensures.problem;
-  rates = c.into-parts.ensures.rates;
-  gap = c.into-parts.ensures.gap;
-  plain = subst (λ (p : Problem). PlainMeaning (meaning_of (program c.into-parts.result.0) (at c.into-parts.result.1.rates)) (program p)) c.into-parts.ensures.problem (plain (program c.into-parts.result.0) (at c.into-parts.result.1.rates));
+  problem = c.into_parts.ensures.problem;
+  rates = c.into_parts.ensures.rates;
+  gap = c.into_parts.ensures.gap;
+  plain = subst (λ (p : Problem). PlainMeaning (meaning_of (program c.into_parts.result.0) (at c.into_parts.result.1.rates)) (program p)) c.into_parts.ensures.problem (plain (program c.into_parts.result.0) (at c.into_parts.result.1.rates));
 }

@@ -6,33 +6,33 @@ use Rattle.family.specs.Numbers.{at, Small}
 use Rattle.problem.proofs.Readings.{HeaderSound, header_sound, gap_is, gap_there}
 use Rattle.problem.proofs.header.Header.read.Goals as goal
 
-pub returns-in-default-new : goal.returns-in-default-new
-returns-in-default-new c =
+pub returns-in_default-new : goal.returns-in_default-new
+returns-in_default-new c =
     let xs = c.args.list.now in
     let same : to_z w32 (of_z w32 (at xs 1)) ≡ at xs 1 = search rules in
-    let h = header_sound c.rates-in-use-rates.result xs c.in-ok-judge.ensures in
-    let no : ⊥ = gap_there same h.gap_in c.in-default-new.ensures in
+    let h = header_sound c.rates_in_use-rates.result xs c.in_ok-judge.ensures in
+    let no : ⊥ = gap_there same h.gap_in c.in_default-new.ensures in
     elim no [ ]
 
 pub of-requires : goal.of-requires
 of-requires c =
     let xs = c.args.list.now in
-    let h = header_sound c.rates-in-use-rates.result xs c.in-ok-judge.ensures in
+    let h = header_sound c.rates_in_use-rates.result xs c.in_ok-judge.ensures in
     record { eight = ap length (take_rest xs 2) ∙ h.rates.long; small = subst (Small 50) (sym (take_rest xs 2)) h.rates.small }
 
-pub invariant-of-result : goal.invariant-of-result
-invariant-of-result c =
+pub invariant_of-result : goal.invariant_of-result
+invariant_of-result c =
     let xs = c.args.list.now in
-    let n : c.unsigned-abs.result ≡ nat_abs (at xs 0) = search rules in
-    let h = header_sound c.rates-in-use-rates.result xs c.in-ok-judge.ensures in
+    let n : c.unsigned_abs.result ≡ nat_abs (at xs 0) = search rules in
+    let h = header_sound c.rates_in_use-rates.result xs c.in_ok-judge.ensures in
     (subst (λ n. 1 ≤ n) (sym n) h.some, (subst (λ n. n ≤ 8) (sym n) h.few, tt))
 
 pub returns : goal.returns
 returns c =
     let xs = c.args.list.now in
-    let n : c.unsigned-abs.result ≡ nat_abs (at xs 0) = search rules in
+    let n : c.unsigned_abs.result ≡ nat_abs (at xs 0) = search rules in
     let same : to_z w32 (of_z w32 (at xs 1)) ≡ at xs 1 = search rules in
-    let h = header_sound c.rates-in-use-rates.result xs c.in-ok-judge.ensures in (
-      sym (c.in-ok-judge.ensures ∙ ap (λ k. list_fault (HeaderShape k) xs) c.rates-in-use-rates.ensures),
+    let h = header_sound c.rates_in_use-rates.result xs c.in_ok-judge.ensures in (
+      sym (c.in_ok-judge.ensures ∙ ap (λ k. list_fault (HeaderShape k) xs) c.rates_in_use-rates.ensures),
       record { n = ap pos n ∙ h.n_is; gap = gap_is c.in-Some.gap.value same c.in-Some.ensures; rates = c.of.ensures ∙ take_rest xs 2 },
     )

@@ -4,13 +4,13 @@ use Rattle.problem.specs.Tables.{with_row}
 use Rattle.problem.proofs.Cells.{written, row_small}
 use Rattle.problem.proofs.matrix.Matrix.write_row.Goals as goal
 
-pub invariant-of-self : goal.invariant-of-self
-invariant-of-self c =
+pub invariant_of-self : goal.invariant_of-self
+invariant_of-self c =
     let room : 8 * c.args.row + 8 ≤ length c.args.self.now.cells = search rules in (
-      subst (Small 50) (sym (written c.args.self.now.cells c.args.row c.copy-from-slice.ensures.after))
+      subst (Small 50) (sym (written c.args.self.now.cells c.args.row c.copy_from_slice.ensures.after))
           (row_small c.args.self.now.cells c.args.row c.args.coefficients.now room c.requires.eight 50 c.args.self.now.small c.requires.small),
       tt,
     )
 
 pub returns : goal.returns
-returns c = written c.args.self.now.cells c.args.row c.copy-from-slice.ensures.after
+returns c = written c.args.self.now.cells c.args.row c.copy_from_slice.ensures.after

@@ -2,5 +2,5 @@ use Rattle.std.proofs.Common.{◌≤◌, nat_abs, sym, subst, arith}
 use Rattle.problem.proofs.Cells.{zeros}
 use Rattle.problem.proofs.matrix.Matrix.zero.Goals as goal
 
-pub invariant-of-result : goal.invariant-of-result
-invariant-of-result c = (λ k. subst (λ x. nat_abs x ≤ 50) (sym (zeros 128 k)) (omega arith), tt)
+pub invariant_of-result : goal.invariant_of-result
+invariant_of-result c = (λ k. subst (λ x. nat_abs x ≤ 50) (sym (zeros 128 k)) (omega arith), tt)

@@ -6,24 +6,24 @@ use Rattle.family.specs.Numbers.{at, Small}
 use Rattle.problem.proofs.Readings.{row_sound, row_unknown, row_whole}
 use Rattle.problem.proofs.new_row.NewRow.read.Goals as goal
 
-pub returns-in-default-from-number : goal.returns-in-default-from-number
-returns-in-default-from-number c =
+pub returns-in_default-from_number : goal.returns-in_default-from_number
+returns-in_default-from_number c =
     let xs = c.args.list.now in
     let same : to_z w32 (of_z w32 (at xs 0)) ≡ at xs 0 = search rules in
-    row_unknown c.args.n xs c.in-ok-judge-length.ensures same c.in-default-from-number.ensures
+    row_unknown c.args.n xs c.in_ok-judge_length.ensures same c.in_default-from_number.ensures
 
-pub invariant-of-result : goal.invariant-of-result
-invariant-of-result c =
+pub invariant_of-result : goal.invariant_of-result
+invariant_of-result c =
     let xs = c.args.list.now in
     let lo : to_z w32 (of_z w32 (at xs 1)) ≡ at xs 1 = search rules in
     let hi : to_z w32 (of_z w32 (at xs 2)) ≡ at xs 2 = search rules in
-    let h = row_sound c.args.n xs c.in-ok-judge-length.ensures c.in-ok-judge-numbers.ensures in (
+    let h = row_sound c.args.n xs c.in_ok-judge_length.ensures c.in_ok-judge_numbers.ensures in (
       subst (λ z. nat_abs z ≤ 10000) (sym lo) h.low,
       (
         subst (λ z. nat_abs z ≤ 10000) (sym hi) h.high,
         (
           search rules,
-          (subst (Small 50) (sym (c.copy-from-slice.ensures.after ∙ take_rest xs 3)) h.coefficients.small, tt),
+          (subst (Small 50) (sym (c.copy_from_slice.ensures.after ∙ take_rest xs 3)) h.coefficients.small, tt),
         ),
       ),
     )
@@ -35,6 +35,6 @@ returns c =
     let lo : to_z w32 (of_z w32 (at xs 1)) ≡ at xs 1 = search rules in
     let hi : to_z w32 (of_z w32 (at xs 2)) ≡ at xs 2 = search rules in
     let ordered : le_z (at xs 1) (at xs 2) ≡ true = search rules in (
-      row_whole c.args.n xs c.in-ok-judge-length.ensures c.in-Some.kind kind c.in-Some.ensures c.in-ok-judge-numbers.ensures ordered,
-      record { kind = c.in-Some.ensures ∙ kind; lo = lo; hi = hi; coefficients = c.copy-from-slice.ensures.after ∙ take_rest xs 3 },
+      row_whole c.args.n xs c.in_ok-judge_length.ensures c.in-Some.kind kind c.in-Some.ensures c.in_ok-judge_numbers.ensures ordered,
+      record { kind = c.in-Some.ensures ∙ kind; lo = lo; hi = hi; coefficients = c.copy_from_slice.ensures.after ∙ take_rest xs 3 },
     )

@@ -3,7 +3,7 @@ use Rattle.problem.specs.Tables.{blank}
 use Rattle.problem.proofs.Growth.{Kept, fresh_kept}
 use Rattle.problem.proofs.table.Problem.fresh.Goals as goal
 
-pub invariant-of-result : goal.invariant-of-result
-invariant-of-result c =
+pub invariant_of-result : goal.invariant_of-result
+invariant_of-result c =
     let k = subst (Kept 1 0 (replicate 16 blank)) (sym c.zero.ensures) (fresh_kept 16 128) in
     (k.some, (k.few, (k.fits, (k.low, (k.high, (k.ordered, (k.unused, (k.fillers, tt))))))))

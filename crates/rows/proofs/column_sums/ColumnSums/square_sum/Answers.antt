@@ -13,11 +13,11 @@ step c is inv =
     product_turn 800000 800000 c.loop-column.column (at c.args.self.now.sums) (at c.args.self.now.sums)
     is c.sum-sum.ensures.value c.sum-sum.ensures.near c.sum-sum.ensures.value c.sum-sum.ensures.near inv (omega arith) (omega arith) (omega arith) (omega (arith, c.args.self.now.few))
 
-pub overflow-mul-total : goal.overflow-mul-total
-overflow-mul-total c = (step c c.loop-column.total-is c.loop-column.invariant).product
+pub overflow_mul-total : goal.overflow_mul-total
+overflow_mul-total c = (step c c.loop-column.total-is c.loop-column.invariant).product
 
-pub overflow-add-total : goal.overflow-add-total
-overflow-add-total c = (step c c.loop-column.total-is c.loop-column.invariant).turned.fits
+pub overflow_add-total : goal.overflow_add-total
+overflow_add-total c = (step c c.loop-column.total-is c.loop-column.invariant).turned.fits
 
 pub loop-column-preserved : goal.loop-column-preserved
 loop-column-preserved c = (step c c.loop-column.total-is c.loop-column.invariant).turned.again

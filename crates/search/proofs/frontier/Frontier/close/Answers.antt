@@ -9,11 +9,11 @@ high : (f : Frontier) → 0 < length (nodes_of f) → 0 < f.height
 unfolding nodes_of
 high f h = omega (arith, nodes_length f.path f.stack f.height)
 
-pub overflow-sub-self : goal.overflow-sub-self
-overflow-sub-self c = omega (arith, high c.args.self.now c.requires)
+pub overflow_sub-self : goal.overflow_sub-self
+overflow_sub-self c = omega (arith, high c.args.self.now c.requires)
 
-pub invariant-of-self : goal.invariant-of-self
-invariant-of-self c =
+pub invariant_of-self : goal.invariant_of-self
+invariant_of-self c =
     let f = c.args.self.now in
     let some = high f c.requires in
     let e : f.height ≡ suc (f.height - 1) = omega arith in

@@ -4,9 +4,9 @@ use Rattle.search.specs.View.{nodes_of}
 use Rattle.search.proofs.Stacking.{small_zeros}
 use Rattle.search.proofs.frontier.Frontier.root.Goals as goal
 
-pub invariant-of-result-2 : goal.invariant-of-result-2
+pub invariant_of-result-2 : goal.invariant_of-result-2
 unfolding free_rows
-invariant-of-result-2 c = (lit≤ tt, (small_zeros 16, (refl, (lit≤ tt, (refl, tt)))))
+invariant_of-result-2 c = (lit≤ tt, (small_zeros 16, (refl, (lit≤ tt, (refl, tt)))))
 
 pub returns : goal.returns
 unfolding nodes_of

@@ -9,7 +9,7 @@ use Rattle.search.specs.Tally.{OnTop, branched}
 use Rattle.search.specs.View.{nodes_of}
 use Rattle.search.proofs.Stacking.{row_back, nodes_some, small_set, room_at, forked_nodes, forked_sane, forked_weight}
 use Rattle.search.proofs.frontier.Frontier.split.Goals as goal
-use Rattle.search.proofs.frontier.Frontier.split.Goals.{After-index-self-self-2, at·returns}
+use Rattle.search.proofs.frontier.Frontier.split.Goals.{After-index-self-self-2, at-returns}
 
 -- a node is open
 high : (f : Frontier) (r : ℕ) → OnTop (λ s. s r ≡ None) (nodes_of f) → 0 < f.height
@@ -63,8 +63,8 @@ child-named-requires c =
 pub bounds-self-top : goal.bounds-self-top
 bounds-self-top c = (has_room c.args.self.now c.top-top.result c.args.row c.args.side c.top-top.ensures c.requires.within c.requires.loose).0
 
-pub overflow-sub-other : goal.overflow-sub-other
-overflow-sub-other c = high c.args.self.now c.args.row c.requires.loose
+pub overflow_sub-other : goal.overflow_sub-other
+overflow_sub-other c = high c.args.self.now c.args.row c.requires.loose
 
 pub listed-2 : goal.listed-2
 listed-2 c =
@@ -79,11 +79,11 @@ forked : (c : After-index-self-self-2) → Forking c.args.self.now (set c.args.s
 forked c = forks c.args.self.now c.top-top.result c.child-named.result c.child-other.result c.args.row c.args.side c.opposite.result
     c.top-top.ensures c.requires.within c.requires.loose (search rules) (search rules) c.opposite.ensures c.child-named.ensures c.child-other.ensures
 
-pub invariant-of-self : goal.invariant-of-self
-invariant-of-self c =
+pub invariant_of-self : goal.invariant_of-self
+invariant_of-self c =
     let k = forked c in
     (omega arith, (k.named, (k.sound, (omega arith, (omega arith, tt)))))
 
 pub returns : goal.returns
 unfolding nodes_of
-returns c = record { nodes = (forked (at·returns c).After-index-self-self-2).nodes; closed = refl; splits = refl }
+returns c = record { nodes = (forked (at-returns c).After-index-self-self-2).nodes; closed = refl; splits = refl }

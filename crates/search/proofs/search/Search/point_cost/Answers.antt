@@ -8,6 +8,6 @@ returns g c =
     let m = g.F.Family.meaning f in
     let laws = g.met.F.Family.kept f in
     record {
-      answer = cost_ok m laws c.size-n.result.0 c.size-n.ensures.quantities c.args.list.now c.in-ok-point.point (side_of c.all-free.result) c.all-free.ensures c.in-ok-point.ensures c.in-ok-judge-point.field-0 c.in-ok-judge-point.ensures;
-      fair = cost_fair m laws c.size-n.result.0 c.size-n.ensures.quantities c.args.list.now c.in-ok-point.point (side_of c.all-free.result) c.all-free.ensures c.in-ok-point.ensures c.in-ok-judge-point.field-0 c.in-ok-judge-point.ensures;
+      answer = cost_ok m laws c.size-n.result.0 c.size-n.ensures.quantities c.args.list.now c.in_ok-point.point (side_of c.all_free.result) c.all_free.ensures c.in_ok-point.ensures c.in_ok-judge_point.field-0 c.in_ok-judge_point.ensures;
+      fair = cost_fair m laws c.size-n.result.0 c.size-n.ensures.quantities c.args.list.now c.in_ok-point.point (side_of c.all_free.result) c.all_free.ensures c.in_ok-point.ensures c.in_ok-judge_point.field-0 c.in_ok-judge_point.ensures;
     }

@@ -7,30 +7,30 @@ use Rattle.search.specs.View.{nodes_of}
 use Rattle.search.proofs.Judging.{shows_err, shows_ok, judgement_fair}
 use Rattle.search.proofs.search.Search.proof_shows.Goals as goal
 
-pub returns-in-err-judgement : goal.returns-in-err-judgement
-returns-in-err-judgement g c =
+pub returns-in_err-judgement : goal.returns-in_err-judgement
+returns-in_err-judgement g c =
     let s = c.args.self.now in
     shows_err (g.F.Family.meaning s.family) (g.met.F.Family.kept s.family) (gap_value s.gap) c.size-m.result.1 c.size-m.ensures.rows (nodes_of s.inner.frontier) (held_of s.inner.held) c.args.list.now
-    c.in-ok-proof.proof (side_of c.in-ok-sides.sides) (rest (nodes_of s.inner.frontier)) c.in-ok-proof.ensures c.in-ok-sides.ensures
-    c.in-err-judgement.field-0.0 c.from-residual-in-err-judgement.result (passed c.from-residual-in-err-judgement.result c.from-residual-in-err-judgement.ensures.1) c.in-err-judgement.ensures
+    c.in_ok-proof.proof (side_of c.in_ok-sides.sides) (rest (nodes_of s.inner.frontier)) c.in_ok-proof.ensures c.in_ok-sides.ensures
+    c.in_err-judgement.field-0.0 c.from_residual-in_err-judgement.result (passed c.from_residual-in_err-judgement.result c.from_residual-in_err-judgement.ensures.1) c.in_err-judgement.ensures
 
-pub is-shut-by-requires : goal.is-shut-by-requires
-is-shut-by-requires g c =
+pub is_shut_by-requires : goal.is_shut_by-requires
+is_shut_by-requires g c =
     let s = c.args.self.now in
     judgement_fair (g.F.Family.meaning s.family) (g.met.F.Family.kept s.family) (gap_value s.gap) c.size-m.result.1 c.size-m.ensures.rows (nodes_of s.inner.frontier) (held_of s.inner.held) c.args.list.now
-    c.in-ok-proof.proof (side_of c.in-ok-sides.sides) (rest (nodes_of s.inner.frontier)) c.in-ok-proof.ensures c.in-ok-sides.ensures
-    c.in-ok-judgement.judgement c.in-ok-judgement.ensures
+    c.in_ok-proof.proof (side_of c.in_ok-sides.sides) (rest (nodes_of s.inner.frontier)) c.in_ok-proof.ensures c.in_ok-sides.ensures
+    c.in_ok-judgement.judgement c.in_ok-judgement.ensures
 
-pub returns-then-is-shut-by : goal.returns-then-is-shut-by
-returns-then-is-shut-by g c =
+pub returns-then-is_shut_by : goal.returns-then-is_shut_by
+returns-then-is_shut_by g c =
     let s = c.args.self.now in
     shows_ok (g.F.Family.meaning s.family) (g.met.F.Family.kept s.family) (gap_value s.gap) c.size-m.result.1 c.size-m.ensures.rows (nodes_of s.inner.frontier) (held_of s.inner.held) c.args.list.now
-    c.in-ok-proof.proof (side_of c.in-ok-sides.sides) (rest (nodes_of s.inner.frontier)) c.in-ok-proof.ensures c.in-ok-sides.ensures
-    c.in-ok-judgement.judgement c.in-ok-judgement.ensures true (sym c.if-is-shut-by.ensures)
+    c.in_ok-proof.proof (side_of c.in_ok-sides.sides) (rest (nodes_of s.inner.frontier)) c.in_ok-proof.ensures c.in_ok-sides.ensures
+    c.in_ok-judgement.judgement c.in_ok-judgement.ensures true (sym c.if-is_shut_by.ensures)
 
-pub returns-else-is-shut-by : goal.returns-else-is-shut-by
-returns-else-is-shut-by g c =
+pub returns-else-is_shut_by : goal.returns-else-is_shut_by
+returns-else-is_shut_by g c =
     let s = c.args.self.now in
     ap Err c.into.ensures ∙ shows_ok (g.F.Family.meaning s.family) (g.met.F.Family.kept s.family) (gap_value s.gap) c.size-m.result.1 c.size-m.ensures.rows (nodes_of s.inner.frontier) (held_of s.inner.held) c.args.list.now
-    c.in-ok-proof.proof (side_of c.in-ok-sides.sides) (rest (nodes_of s.inner.frontier)) c.in-ok-proof.ensures c.in-ok-sides.ensures
-    c.in-ok-judgement.judgement c.in-ok-judgement.ensures false (sym c.if-is-shut-by.ensures)
+    c.in_ok-proof.proof (side_of c.in_ok-sides.sides) (rest (nodes_of s.inner.frontier)) c.in_ok-proof.ensures c.in_ok-sides.ensures
+    c.in_ok-judgement.judgement c.in_ok-judgement.ensures false (sym c.if-is_shut_by.ensures)

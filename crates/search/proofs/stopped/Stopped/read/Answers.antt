@@ -16,9 +16,9 @@ pub returns : goal.returns
 returns g c =
     let s = c.args.self.now.search in
     let long : eqb (length c.args.place.now) 9 ≡ true = eq-eqb (length c.args.place.now) 9 c.if-place-ne-NUMBERS.false in
-    let filled = c.copy-from-slice.ensures.after ∙ c.numbers-numbers.ensures in
+    let filled = c.copy_from_slice.ensures.after ∙ c.numbers-numbers.ensures in
     record {
       answer = first (Ok c.report.result) (Ok (report_in s.inner)) (Err (in_List Length)) (eqb (length c.args.place.now) 9) long (ap Ok c.report.ensures);
-      place = first c.copy-from-slice.new.self (numbers_in s.inner) c.args.place.now (eqb (length c.args.place.now) 9) long filled;
-      ends = ended_as (g.F.Family.meaning s.family) (g.met.F.Family.kept s.family) (gap_value s.gap) s.inner c.report.result c.copy-from-slice.new.self c.report.ensures filled;
+      place = first c.copy_from_slice.new.self (numbers_in s.inner) c.args.place.now (eqb (length c.args.place.now) 9) long filled;
+      ends = ended_as (g.F.Family.meaning s.family) (g.met.F.Family.kept s.family) (gap_value s.gap) s.inner c.report.result c.copy_from_slice.new.self c.report.ensures filled;
     }

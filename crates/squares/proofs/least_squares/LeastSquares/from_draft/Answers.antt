@@ -8,7 +8,7 @@ use Rattle.squares.proofs.least_squares.LeastSquares.from_draft.Goals as goal
 
 pub returns : goal.returns
 returns c = record {
-  problem = c.into-parts.ensures.problem;
-  gap = c.into-parts.ensures.gap;
-  plain = subst (λ (p : Problem). PlainMeaning (meaning_of (program c.into-parts.result.0)) (program p)) c.into-parts.ensures.problem (plain (program c.into-parts.result.0));
+  problem = c.into_parts.ensures.problem;
+  gap = c.into_parts.ensures.gap;
+  plain = subst (λ (p : Problem). PlainMeaning (meaning_of (program c.into_parts.result.0)) (program p)) c.into_parts.ensures.problem (plain (program c.into_parts.result.0));
 }

@@ -13,11 +13,11 @@ step c is inv =
     product_turn 1000000 1000000 c.loop-column.column (numerator_of c.args.point.now) (numerator_of c.args.point.now)
     is c.numerator-p.ensures.value c.numerator-p.ensures.small c.numerator-p.ensures.value c.numerator-p.ensures.small inv (omega arith) (omega arith) (omega arith) (omega arith)
 
-pub overflow-mul-sum : goal.overflow-mul-sum
-overflow-mul-sum c = (step c c.loop-column.sum-is c.loop-column.invariant).product
+pub overflow_mul-sum : goal.overflow_mul-sum
+overflow_mul-sum c = (step c c.loop-column.sum-is c.loop-column.invariant).product
 
-pub overflow-add-sum : goal.overflow-add-sum
-overflow-add-sum c = (step c c.loop-column.sum-is c.loop-column.invariant).turned.fits
+pub overflow_add-sum : goal.overflow_add-sum
+overflow_add-sum c = (step c c.loop-column.sum-is c.loop-column.invariant).turned.fits
 
 pub loop-column-preserved : goal.loop-column-preserved
 loop-column-preserved c = (step c c.loop-column.sum-is c.loop-column.invariant).turned.again

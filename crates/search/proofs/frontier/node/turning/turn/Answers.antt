@@ -33,14 +33,14 @@ returns-then-row-gt0 c k =
     let z = c.args.row in
     let own = row_back z c.requires in
     let abs = ap nat_abs own in
-    let i = c.unsigned-abs.result - 1 in
-    c.fix.ensures.inside (omega arith) k ∙ upper (side_of c.args.sides) z (back w8 z) i own c.if-row-gt0.true (ap (λ n. n - 1) c.unsigned-abs.ensures.value) k
+    let i = c.unsigned_abs.result - 1 in
+    c.fix.ensures.inside (omega arith) k ∙ upper (side_of c.args.sides) z (back w8 z) i own c.if-row-gt0.true (ap (λ n. n - 1) c.unsigned_abs.ensures.value) k
 
 pub returns-else-row-gt0 : goal.returns-else-row-gt0
 returns-else-row-gt0 c k =
     let z = c.args.row in
     let own = row_back z c.requires in
     let abs = ap nat_abs own in
-    let i = c.unsigned-abs.result - 1 in
+    let i = c.unsigned_abs.result - 1 in
     let some : 0 < nat_abs (back w8 z) = omega (arith, ints) in
-    c.fix-else-row-gt0.ensures.inside (omega arith) k ∙ lower (side_of c.args.sides) z (back w8 z) i own some c.if-row-gt0.false (ap (λ n. n - 1) c.unsigned-abs.ensures.value) k
+    c.fix-else-row-gt0.ensures.inside (omega arith) k ∙ lower (side_of c.args.sides) z (back w8 z) i own some c.if-row-gt0.false (ap (λ n. n - 1) c.unsigned_abs.ensures.value) k
