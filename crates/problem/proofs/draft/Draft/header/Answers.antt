@@ -7,4 +7,4 @@ pub invariant_of-self : goal.invariant_of-self
 invariant_of-self g c =
     let e = c.in_ok-header.ensures in
     let n : c.set_quantities.new.self.n ≡ c.in_ok-header.header.n = quantities_set c.args.self.now.problem c.set_quantities.new.self _ c.set_quantities.ensures in
-    (header_filler _ c.args.list.now e.0 (ap pos n ∙ e.1.n) e.1.rates, tt)
+    record { fillers = header_filler _ c.args.list.now e.0 (ap pos n ∙ e.1.n) e.1.rates }

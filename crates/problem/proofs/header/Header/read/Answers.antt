@@ -25,7 +25,7 @@ invariant_of-result c =
     let xs = c.args.list.now in
     let n : c.unsigned_abs.result ≡ nat_abs (at xs 0) = search rules in
     let h = header_sound c.rates_in_use-rates.result xs c.in_ok-judge.ensures in
-    (subst (λ n. 1 ≤ n) (sym n) h.some, (subst (λ n. n ≤ 8) (sym n) h.few, tt))
+    record { some = subst (λ n. 1 ≤ n) (sym n) h.some; few = subst (λ n. n ≤ 8) (sym n) h.few }
 
 pub returns : goal.returns
 returns c =

@@ -6,11 +6,11 @@ use Rattle.problem.proofs.matrix.Matrix.write_row.Goals as goal
 
 pub invariant_of-self : goal.invariant_of-self
 invariant_of-self c =
-    let room : 8 * c.args.row + 8 ≤ length c.args.self.now.cells = search rules in (
-      subst (Small 50) (sym (written c.args.self.now.cells c.args.row c.copy_from_slice.ensures.after))
-          (row_small c.args.self.now.cells c.args.row c.args.coefficients.now room c.requires.eight 50 c.args.self.now.small c.requires.small),
-      tt,
-    )
+    let room : 8 * c.args.row + 8 ≤ length c.args.self.now.cells = search rules in
+    record {
+      small = subst (Small 50) (sym (written c.args.self.now.cells c.args.row c.copy_from_slice.ensures.after))
+          (row_small c.args.self.now.cells c.args.row c.args.coefficients.now room c.requires.eight 50 c.args.self.now.small c.requires.small);
+    }
 
 pub returns : goal.returns
 returns c = written c.args.self.now.cells c.args.row c.copy_from_slice.ensures.after

@@ -3,4 +3,4 @@ use Rattle.problem.proofs.Cells.{zeros}
 use Rattle.problem.proofs.matrix.Matrix.zero.Goals as goal
 
 pub invariant_of-result : goal.invariant_of-result
-invariant_of-result c = (λ k. subst (λ x. nat_abs x ≤ 50) (sym (zeros 128 k)) (omega arith), tt)
+invariant_of-result c = record { small = λ k. subst (λ x. nat_abs x ≤ 50) (sym (zeros 128 k)) (omega arith) }

@@ -17,16 +17,13 @@ invariant_of-result c =
     let xs = c.args.list.now in
     let lo : to_z w32 (of_z w32 (at xs 1)) ≡ at xs 1 = search rules in
     let hi : to_z w32 (of_z w32 (at xs 2)) ≡ at xs 2 = search rules in
-    let h = row_sound c.args.n xs c.in_ok-judge_length.ensures c.in_ok-judge_numbers.ensures in (
-      subst (λ z. nat_abs z ≤ 10000) (sym lo) h.low,
-      (
-        subst (λ z. nat_abs z ≤ 10000) (sym hi) h.high,
-        (
-          search rules,
-          (subst (Small 50) (sym (c.copy_from_slice.ensures.after ∙ take_rest xs 3)) h.coefficients.small, tt),
-        ),
-      ),
-    )
+    let h = row_sound c.args.n xs c.in_ok-judge_length.ensures c.in_ok-judge_numbers.ensures in
+    record {
+      low = subst (λ z. nat_abs z ≤ 10000) (sym lo) h.low;
+      high = subst (λ z. nat_abs z ≤ 10000) (sym hi) h.high;
+      ordered = search rules;
+      small = subst (Small 50) (sym (c.copy_from_slice.ensures.after ∙ take_rest xs 3)) h.coefficients.small;
+    }
 
 pub returns : goal.returns
 returns c =

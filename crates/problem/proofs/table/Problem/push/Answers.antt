@@ -16,4 +16,4 @@ invariant_of-self c =
     let room : p.m < 16 = search rules in
     let k = pushed old room sixteen whole (record { kind = new.kind; lo = to_z w32 (of_z w32 new.lo); hi = to_z w32 (of_z w32 new.hi) }) new.coefficients eight
     (subst (λ x. nat_abs x ≤ 10000) (sym lo) new.low) (subst (λ x. nat_abs x ≤ 10000) (sym hi) new.high) order c.requires c.write_row.ensures in
-    (k.some, (k.few, (k.fits, (k.low, (k.high, (k.ordered, (k.unused, (k.fillers, tt))))))))
+    record { some = k.some; few = k.few; fits = k.fits; low = k.low; high = k.high; ordered = k.ordered; unused = k.unused; fillers = k.fillers }

@@ -25,10 +25,10 @@ told p i e = record {
 
 pub returns-in-Some : goal.returns-in-Some
 returns-in-Some c =
-    let t = told c.args.self.now c.args.index (c.in-Some.ensures.finds.3.1 blank) in
+    let t = told c.args.self.now c.args.index (c.in-Some.ensures.lookup.3.1 blank) in
     record { kind = t.kind; lo = t.lo; hi = t.hi; low = t.low; high = t.high }
 
 pub returns-in-None : goal.returns-in-None
 returns-in-None c =
-    let t = told c.args.self.now c.args.index (past_rows c.args.self.now.rows c.args.index c.in-None.ensures.finds.3) in
+    let t = told c.args.self.now c.args.index (past_rows c.args.self.now.rows c.args.index c.in-None.ensures.lookup.3) in
     record { kind = t.kind; lo = t.lo; hi = t.hi; low = t.low; high = t.high }

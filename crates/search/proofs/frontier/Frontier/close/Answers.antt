@@ -17,7 +17,13 @@ invariant_of-self c =
     let f = c.args.self.now in
     let some = high f c.requires in
     let e : f.height ≡ suc (f.height - 1) = omega arith in
-    (omega arith, (f.named, (close_sane f.path f.stack f.height (f.height - 1) e f.sound, (close_weight f.stack f.height (f.height - 1) f.closed e f.weighed, (omega arith, tt)))))
+    record {
+      low = omega arith;
+      named = f.named;
+      sound = close_sane f.path f.stack f.height (f.height - 1) e f.sound;
+      weighed = close_weight f.stack f.height (f.height - 1) f.closed e f.weighed;
+      counted = omega arith;
+    }
 
 pub returns : goal.returns
 unfolding nodes_of

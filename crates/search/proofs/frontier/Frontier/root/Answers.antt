@@ -6,7 +6,7 @@ use Rattle.search.proofs.frontier.Frontier.root.Goals as goal
 
 pub invariant_of-result-2 : goal.invariant_of-result-2
 unfolding free_rows
-invariant_of-result-2 c = (lit≤ tt, (small_zeros 16, (refl, (lit≤ tt, (refl, tt)))))
+invariant_of-result-2 c = record { low = lit≤ tt; named = small_zeros 16; sound = refl; weighed = lit≤ tt; counted = refl }
 
 pub returns : goal.returns
 unfolding nodes_of

@@ -82,7 +82,7 @@ forked c = forks c.args.self.now c.top-top.result c.child-named.result c.child-o
 pub invariant_of-self : goal.invariant_of-self
 invariant_of-self c =
     let k = forked c in
-    (omega arith, (k.named, (k.sound, (omega arith, (omega arith, tt)))))
+    record { low = omega arith; named = k.named; sound = k.sound; weighed = omega arith; counted = omega arith }
 
 pub returns : goal.returns
 unfolding nodes_of
