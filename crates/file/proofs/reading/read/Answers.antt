@@ -20,31 +20,31 @@ returns-in_err-check_link-2 c =
     (read_second c.args.bytes.now _ c.in_ok-n.ensures c.in_ok-check_link.ensures _ c.in_err-check_link-2.ensures)
     c.from_residual-in_err-check_link-2.ensures.1
 
-pub returns-in_err-draft : goal.returns-in_err-draft
-returns-in_err-draft c =
+pub returns-in_err-draft-in-1 : goal.returns-in_err-draft-in-1
+returns-in_err-draft-in-1 c =
     let one : is 1 (word c.args.bytes.now 2) ≡ true = search rules in
-    mapped_stopped _ c.from_residual-in_err-draft.result c.in_err-draft.field-0.0
-    (read_squares c.args.bytes.now _ c.in_ok-n.ensures c.in_ok-check_link.ensures c.in_ok-check_link-2.ensures one c.in_err-draft.ensures)
-    c.from_residual-in_err-draft.ensures.1
+    mapped_stopped _ c.from_residual-in_err-draft-in-1.result c.in_err-draft-in-1.field-0.0
+    (read_squares c.args.bytes.now _ c.in_ok-n.ensures c.in_ok-check_link.ensures c.in_ok-check_link-2.ensures one c.in_err-draft-in-1.ensures)
+    c.from_residual-in_err-draft-in-1.ensures.1
 
-pub returns-in_err-draft-2 : goal.returns-in_err-draft-2
-returns-in_err-draft-2 c =
+pub returns-in_err-draft-in-2 : goal.returns-in_err-draft-in-2
+returns-in_err-draft-in-2 c =
     let one : is 1 (word c.args.bytes.now 2) ≡ false = search rules in
     let two : is 2 (word c.args.bytes.now 2) ≡ true = search rules in
-    mapped_stopped _ c.from_residual-in_err-draft-2.result c.in_err-draft-2.field-0.0
-    (read_linear c.args.bytes.now _ c.in_ok-n.ensures c.in_ok-check_link.ensures c.in_ok-check_link-2.ensures one two c.in_err-draft-2.ensures)
-    c.from_residual-in_err-draft-2.ensures.1
+    mapped_stopped _ c.from_residual-in_err-draft-in-2.result c.in_err-draft-in-2.field-0.0
+    (read_linear c.args.bytes.now _ c.in_ok-n.ensures c.in_ok-check_link.ensures c.in_ok-check_link-2.ensures one two c.in_err-draft-in-2.ensures)
+    c.from_residual-in_err-draft-in-2.ensures.1
 
-pub returns-in_ok-draft : goal.returns-in_ok-draft
-returns-in_ok-draft c =
+pub returns-in_ok-draft-in-1 : goal.returns-in_ok-draft-in-1
+returns-in_ok-draft-in-1 c =
     let one : is 1 (word c.args.bytes.now 2) ≡ true = search rules in
-    sym (read_squares c.args.bytes.now _ c.in_ok-n.ensures c.in_ok-check_link.ensures c.in_ok-check_link-2.ensures one c.in_ok-draft.ensures)
+    sym (read_squares c.args.bytes.now _ c.in_ok-n.ensures c.in_ok-check_link.ensures c.in_ok-check_link-2.ensures one c.in_ok-draft-in-1.ensures)
 
-pub returns-in_ok-draft-2 : goal.returns-in_ok-draft-2
-returns-in_ok-draft-2 c =
+pub returns-in_ok-draft-in-2 : goal.returns-in_ok-draft-in-2
+returns-in_ok-draft-in-2 c =
     let one : is 1 (word c.args.bytes.now 2) ≡ false = search rules in
     let two : is 2 (word c.args.bytes.now 2) ≡ true = search rules in
-    sym (read_linear c.args.bytes.now _ c.in_ok-n.ensures c.in_ok-check_link.ensures c.in_ok-check_link-2.ensures one two c.in_ok-draft-2.ensures)
+    sym (read_linear c.args.bytes.now _ c.in_ok-n.ensures c.in_ok-check_link.ensures c.in_ok-check_link-2.ensures one two c.in_ok-draft-in-2.ensures)
 
 pub returns-in_default : goal.returns-in_default
 returns-in_default c =

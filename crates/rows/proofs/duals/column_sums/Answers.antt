@@ -16,7 +16,7 @@ loop-column-preserved c =
     (subst (λ z. nat_abs z ≤ 800000) (sym is) (subst (λ z. nat_abs z ≤ 800000) c.column_sum.ensures.value c.column_sum.ensures.near)) c.loop-column.invariant
 
 pub invariant_of-result : goal.invariant_of-result
-invariant_of-result c = (c.quantities-n.ensures.few, (c.loop-column.invariant.near, tt))
+invariant_of-result c = record { few = c.quantities-n.ensures.few; near = c.loop-column.invariant.near }
 
 pub returns : goal.returns
 returns c = record { count = c.quantities-n.ensures.value; sums = λ j h. c.loop-column.invariant.done j (omega arith) }

@@ -23,7 +23,7 @@ loop-index-preserved g c =
     let i = c.loop-index.index in
     let inv = c.loop-index.invariant in
     let offers = c.args.offers.now in
-    let d : Offer = Offer.Point record { ref_ptr = (0, 0); ghost_name = 0; now = [] } in
+    let d : Offer = Offer.Point record { ref_ptr = (0, 0); now = [] } in
     let h : i < length c.loop-index.outcomes = search rules in
     let f = follows_at m s.family s₀.family s.gap s₀.gap s.inner s'.inner (call_of (get_or offers i d)) c.offer.result inv.1 inv.2 c.offer.ensures.follows in (
       length-set c.loop-index.outcomes i c.offer.result ∙ inv.0,

@@ -5,4 +5,4 @@ use Rattle.file.proofs.reached.Reached.none.Goals as goal
 
 pub invariant_of-result : goal.invariant_of-result
 unfolding has
-invariant_of-result c = (no_flag 819, (zero-add _ ∙ left_replicate 819, (zero-le, tt)))
+invariant_of-result c = record { marks = no_flag 819; room = zero-add _ ∙ left_replicate 819; small = zero-le }

@@ -11,7 +11,7 @@ pub invariant_of-self : goal.invariant_of-self
 invariant_of-self c =
     let self = c.args.self.now in
     let p = pushed self.at self.seen self.count c.args.k 819 c.requires.below (search rules) (search rules) self.marks self.room c.requires.fresh in
-    (p.marks, (p.room, (p.small, tt)))
+    record { marks = p.marks; room = p.room; small = p.small }
 
 pub returns : goal.returns
 returns c =
