@@ -148,7 +148,7 @@ fn check_outcomes<const N: usize>(
 ) -> Result<(), Fail> {
     for (index, outcome) in outcomes.iter().enumerate() {
         assert!(rt; index < N);
-        check_told(rt, *outcome, expected[index]).note(format_args!("outcome {index}"))?;
+        assert_eq!(rt; outcome_of(*outcome), expected[index], "outcome {index}");
     }
     Ok(())
 }

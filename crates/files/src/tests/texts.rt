@@ -114,6 +114,7 @@ fn check_text(
     records: &[Record],
     lines: &[&'static str],
     last: &str,
+    changes: Changes,
 ) -> Result<(), Fail> {
     let mut buffer = [0; 1_440];
     let length = records.len();
@@ -127,17 +128,17 @@ fn check_text(
             return Err(Fail::new("a line is missing"));
         };
         let text = line.to_string(rt.alloc())?;
-        assert_eq!(rt; text.as_str(), *expected);
+        assert_eq!(rt; text.as_str(), *expected, "{changes:?}");
     }
-    assert!(rt; judged.line(lines.len()).is_none());
+    assert!(rt; judged.line(lines.len()).is_none(), "{changes:?}");
     let text = judged.last_line().to_string(rt.alloc())?;
-    assert_eq!(rt; text.as_str(), last);
+    assert_eq!(rt; text.as_str(), last, "{changes:?}");
     Ok(())
 }
 
 #[test]
 fn the_sample_is_judged(rt: HostRuntime) -> Result<(), Fail> {
-    check_text(&rt, &sample(), &SETTLED, BEST)
+    check_text(&rt, &sample(), &SETTLED, BEST, &[])
 }
 
 // The sample's records in another order, with two that no chain reaches.
@@ -155,13 +156,13 @@ fn a_shuffled_file_is_judged_the_same(rt: HostRuntime) -> Result<(), Fail> {
         padded(&[1, 5, 1, 0]),
         [-1; 20],
     ];
-    check_text(&rt, &shuffled, &SETTLED, BEST)
+    check_text(&rt, &shuffled, &SETTLED, BEST, &[])
 }
 
 #[test]
 fn changed_samples_are_judged(rt: HostRuntime) -> Result<(), Fail> {
     for (changes, lines, last) in &CASES {
-        check_text(&rt, &changed(changes), lines, last).note(format_args!("{changes:?}"))?;
+        check_text(&rt, &changed(changes), lines, last, changes)?;
     }
     Ok(())
 }

@@ -66,7 +66,7 @@ fn check_written(rt: &impl Abort, records: &mut [Record; 8]) -> Result<(), Fail>
 #[test]
 fn drafts_are_written_and_read_back(rt: HostRuntime) -> Result<(), Fail> {
     for changes in &DRAFTS {
-        check_written(&rt, &mut changed(changes)).note(format_args!("{changes:?}"))?;
+        check_written(&rt, &mut changed(changes))?;
     }
     Ok(())
 }
