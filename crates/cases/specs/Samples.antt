@@ -1,5 +1,5 @@
 -- The sample problem, and what the definitions answer to a list that is offered to it.
-use Rattle.std.specs.Prelude.{ℕ, Bool, cond, List, [], ◌∷◌, ◌++◌, take, replicate, ℤ, pos, negsuc, Some, None, Ok, Err, Option, Result, slice_index_or}
+use Rattle.std.specs.Prelude.{ℕ, Bool, List, [], ◌∷◌, ◌++◌, take, replicate, ℤ, pos, Ok, Err, Option, Result, slice_index_or}
 use Rattle.family.specs.declared.fault.Denial.{Denial}
 use Rattle.family.specs.declared.fault.Fault.TheVariants.{List as list_fault_of, Point as point_fault_of, Proof as proof_fault_of}
 use Rattle.family.specs.declared.fault.ListFault.{ListFault}

@@ -1,11 +1,11 @@
 -- The bits of masks.
-use Rattle.std.proofs.Common.{◌≡◌, ℕ, zero, suc, ◌+◌, ◌-◌, ◌*◌, ◌/◌, ◌%◌, ◌^◌, ◌<◌, ◌≤◌, min, max, Bool, true, false, cond, ◌&&◌, eqb, ◌≢◌, Some, None, Option, sym, refl, ap, ◌∙◌, subst, one-mul, pow-suc, one-add, arith}
+use Rattle.std.proofs.Common.{◌≡◌, ℕ, zero, suc, ◌+◌, ◌-◌, ◌/◌, ◌%◌, ◌^◌, ◌<◌, ◌≤◌, min, max, Bool, true, cond, ◌&&◌, eqb, ◌≢◌, Some, None, Option, sym, refl, ap, ◌∙◌, subst, one-mul, pow-suc, one-add, arith}
 use native.Mathlib.Nat.{zero-div}
 use native.Mathlib.Decide.{dec_lt, ℕ_discrete}
 use lib.Arith.{bin_ind}
 use lib.Bits.{bit_and, bit_or, bit_xor, and_step, or_step, xor_step, xor_add_and}
-use Rattle.std.proofs.lemmas.Nat.{and_comm, and_mask, pow_pos, pow-add, and_shr, or_shr, xor_shr, shl-shr, pow_below, shr-shr, div_below, shr_below}
-use Rattle.std.proofs.lemmas.Bool.{eqb-true, eq-eqb, ne_eqb}
+use Rattle.std.proofs.lemmas.Nat.{and_comm, and_mask, pow_pos, pow-add, and_shr, or_shr, xor_shr, shl-shr, pow_below, shr-shr, div_below}
+use Rattle.std.proofs.lemmas.Bool.{eq-eqb, ne_eqb}
 use Rattle.std.proofs.lemmas.Bool.Decides.{Decides-below_and, Decides-eqb}
 use Rattle.family.specs.Sides.{bit, by_bits, side_at, fixed}
 use Rattle.family.specs.declared.side.Side.{Side}

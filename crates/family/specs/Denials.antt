@@ -1,12 +1,8 @@
 -- What each fault tells: its number, its place (0 where there is none) and its layer.
 use Rattle.std.specs.Prelude.{ℕ}
-use Rattle.family.specs.declared.fault.ListFault.{ListFault}
 use Rattle.family.specs.declared.fault.ListFault.TheVariants.{Length, Limit, Filler, Ends, Kind}
-use Rattle.family.specs.declared.fault.PointFault.{PointFault}
 use Rattle.family.specs.declared.fault.PointFault.TheVariants.{NotAdmitted}
-use Rattle.family.specs.declared.fault.ProofFault.{ProofFault}
 use Rattle.family.specs.declared.fault.ProofFault.TheVariants.{NotBalanced}
-use Rattle.family.specs.declared.fault.StateFault.{StateFault}
 use Rattle.family.specs.declared.fault.StateFault.TheVariants.{NotSwitch, HasRows, Full, NoNode, AlreadyFixed, Weak}
 use Rattle.family.specs.declared.fault.Fault.{Fault}
 use Rattle.family.specs.declared.fault.Fault.TheVariants.{List as list, Point as point, Proof as proof, State as state}

@@ -1,6 +1,6 @@
 -- What may stand in each list, and the fault of a list: the first faulty number from the left decides.
 -- Numbers of a list go by their index, counted from 0; a fault tells the place, which is the index and 1.
-use Rattle.std.specs.Prelude.{◌≡◌, ℕ, zero, suc, ◌+◌, ◌-◌, Bool, true, false, cond, ◌&&◌, List, [], ◌∷◌, length, ℤ, pos, negsuc, neg_ℤ, Some, None, Ok, Err, Option, Result, MatchResult, ◌==◌, int_le, nat_lt}
+use Rattle.std.specs.Prelude.{◌≡◌, ℕ, ◌+◌, ◌-◌, Bool, false, cond, ◌&&◌, List, [], ◌∷◌, length, ℤ, pos, negsuc, neg_ℤ, Some, None, Ok, Err, Option, Result, MatchResult, ◌==◌, int_le, nat_lt}
 use Rattle.std.specs.Result.{result_and}
 use Rattle.family.specs.declared.fault.ListFault.{ListFault}
 use Rattle.family.specs.declared.fault.ListFault.TheVariants.{Length, Limit, Filler}

@@ -1,5 +1,5 @@
 -- What a family of problems means, and the laws that it keeps. Sides are a choice for each row: None is free.
-use Rattle.std.specs.Prelude.{◌≡◌, ℕ, ◌<◌, ◌≤◌, Bool, true, cond, ℤ, pos, ◌≤ℤ◌, Some, None, Ok, Err, Option, Result, ◌==◌}
+use Rattle.std.specs.Prelude.{◌≡◌, ℕ, ◌<◌, ◌≤◌, Bool, true, cond, pos, ◌≤ℤ◌, None, Ok, Err, Option, Result, ◌==◌}
 use Rattle.family.specs.declared.fault.PointFault.{PointFault}
 use Rattle.family.specs.declared.fault.PointFault.TheVariants.{NotAdmitted}
 use Rattle.family.specs.declared.fault.ProofFault.{ProofFault}

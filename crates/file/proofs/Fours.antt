@@ -4,7 +4,7 @@ use native.Mathlib.Nat.{div-div-eq-div-mul}
 use borrow.Author.Differences.{ints}
 use Rattle.std.proofs.lemmas.Int.{to_z-of_z}
 use Rattle.std.proofs.lemmas.List.{get_or-set_same, get_or-set_other}
-use Rattle.file.specs.Words.{of_bytes, word}
+use Rattle.file.specs.Words.{of_bytes}
 use Rattle.file.specs.Written.{Put}
 
 digits_by : (n p q r : ℕ) → n ≡ p * 256 + n % 256 → p ≡ q * 256 + p % 256 → q ≡ r * 256 + q % 256 → r < 256 → n % 256 + p % 256 * 256 + q % 256 * 65536 + r % 256 * 16777216 ≡ n

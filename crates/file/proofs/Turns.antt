@@ -4,7 +4,7 @@ use Rattle.std.proofs.lemmas.List.{length-append}
 use Rattle.file.specs.declared.call.Call.{Call}
 use Rattle.file.specs.declared.fault.FileFault.{FileFault}
 use Rattle.file.specs.declared.fault.FileFault.TheVariants.{Link}
-use Rattle.file.specs.Chains.{has, next, goes, chained}
+use Rattle.file.specs.Chains.{next, goes, chained}
 use Rattle.file.specs.Files.{call_added}
 use Rattle.file.specs.Records.{and_then, call_in}
 use Rattle.file.specs.Walks.{New}

@@ -1,8 +1,6 @@
 -- What a file holds, or what is wrong with it first.
-use Rattle.std.specs.Prelude.{ℕ, ◌+◌, ◌-◌, ◌/◌, ◌%◌, Bool, true, false, cond, List, [], ◌∷◌, ◌++◌, length, ℤ, Some, None, Ok, Err, Option, Result, ◌==◌, nat_lt}
+use Rattle.std.specs.Prelude.{ℕ, ◌-◌, ◌/◌, ◌%◌, Bool, true, false, cond, List, [], ◌∷◌, ◌++◌, length, ℤ, Some, None, Ok, Err, Option, Result, ◌==◌, nat_lt}
 use Rattle.std.specs.Result.{result_and, result_map_both}
-use Rattle.problem.specs.declared.cost.Linear.{Linear}
-use Rattle.problem.specs.declared.cost.Squares.{Squares}
 use Rattle.problem.specs.Calls.{Data, fresh_draft, header_answer, with_header}
 use Rattle.file.specs.declared.call.Call.{Call}
 use Rattle.file.specs.declared.fault.FileFault.{FileFault}

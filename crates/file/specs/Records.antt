@@ -1,6 +1,6 @@
 -- One record of a file whose words are f. A record has twenty words: in record 0 the two first records of the chains,
 -- the family and HEADER's ten numbers; in any other the link to the next record, a kind and a list.
-use Rattle.std.specs.Prelude.{ℕ, zero, suc, ◌+◌, ◌-◌, ◌*◌, Bool, true, false, cond, not, ◌||◌, List, ℤ, pos, negsuc, Ok, Err, Result, ◌==◌}
+use Rattle.std.specs.Prelude.{ℕ, zero, suc, ◌+◌, ◌-◌, ◌*◌, Bool, false, cond, ◌||◌, List, ℤ, pos, negsuc, Ok, Err, Result, ◌==◌}
 use Rattle.std.specs.Result.{result_and, result_map_both}
 use Rattle.family.specs.declared.fault.Fault.{Fault}
 use Rattle.problem.specs.Calls.{Data, row_answer, with_listed_row}

@@ -1,6 +1,5 @@
 -- What each fault of a file tells: its number, its record, its place and its layer.
 use Rattle.std.specs.Prelude.{ℕ}
-use Rattle.family.specs.declared.fault.Denial.{Denial}
 use Rattle.family.specs.declared.fault.Layer.{Layer}
 use Rattle.family.specs.declared.fault.Layer.TheVariants.{File as in_file}
 use Rattle.family.specs.Denials.{denial_of}

@@ -1,5 +1,5 @@
 -- From a run of a file's calls to what is claimed of the file.
-use Rattle.std.proofs.Common.{◌≡◌, ℕ, suc, List, [], ◌∷◌, ◌++◌, length, take, ℤ, IsOkAnd, Ok, Err, Result, sym, refl, ap, ◌∙◌, subst, arith}
+use Rattle.std.proofs.Common.{◌≡◌, ℕ, suc, List, [], ◌∷◌, ◌++◌, length, take, ℤ, IsOkAnd, Ok, Result, sym, refl, ap, ◌∙◌, subst, arith}
 use Rattle.std.proofs.lemmas.List.{take-append-le, take_all}
 use Rattle.family.specs.declared.fault.Fault.{Fault}
 use Rattle.family.specs.declared.gap.Gap.{Gap}
@@ -24,7 +24,7 @@ use Rattle.search.specs.declared.report.Report.{Report}
 use Rattle.search.specs.Runs.{Ran}
 use Rattle.search.specs.Tally as search
 use Rattle.judge.specs.declared.judged.Judged.{Judged}
-use Rattle.judge.specs.Problems.{meaning_in, gap_in, calls_made}
+use Rattle.judge.specs.Problems.{calls_made}
 use Rattle.judge.specs.Verdicts.{JudgedBy, JudgedAs}
 
 -- what stands at the front of a table

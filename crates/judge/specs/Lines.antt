@@ -1,9 +1,6 @@
 -- Which line is printed where.
-use Rattle.std.specs.Prelude.{◌≡◌, ℕ, ◌+◌, ◌<◌, length, Result, slice_index_or}
-use Rattle.family.specs.declared.fault.Fault.{Fault}
-use Rattle.file.specs.declared.call.Call.{Call}
+use Rattle.std.specs.Prelude.{◌≡◌, ℕ, ◌+◌, ◌<◌, length, slice_index_or}
 use Rattle.file.specs.Contents.{calls_of}
-use Rattle.search.specs.declared.outcome.Accepted.{Accepted}
 use Rattle.judge.specs.declared.judged.Judged.{Judged}
 use Rattle.judge.specs.declared.text.LastLine.{LastLine}
 use Rattle.judge.specs.declared.text.Line.{Line}

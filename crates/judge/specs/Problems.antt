@@ -1,8 +1,7 @@
 -- The problem and the calls in a file, as a search takes them.
-use Rattle.std.specs.Prelude.{ℕ, cond, List, [], ◌∷◌, ℤ, pos, nat_lt}
+use Rattle.std.specs.Prelude.{ℕ, cond, List, [], ◌∷◌, pos, nat_lt}
 use Rattle.family.specs.Meaning.{Meaning}
 use Rattle.family.specs.Numbers.{at}
-use Rattle.problem.specs.Calls.{Data}
 use Rattle.problem.specs.Drafts.{ProblemData}
 use Rattle.problem.specs.Programs.{Program}
 use Rattle.problem.specs.Tables.{row_at, cell}

@@ -1,5 +1,5 @@
 -- The text that is printed of a judged file, as bytes.
-use Rattle.std.specs.Prelude.{ℕ, Bool, cond, List, [], ◌∷◌, ◌++◌, ℤ, Some, None, Ok, Err, codes, decimal, Option, Result, nat_le}
+use Rattle.std.specs.Prelude.{ℕ, Bool, cond, List, [], ◌++◌, ℤ, Some, None, Ok, Err, codes, decimal, Option, Result, nat_le}
 use Rattle.std.specs.Fmt.{signed_decimal}
 use Rattle.family.specs.declared.fault.Fault.{Fault}
 use Rattle.family.specs.declared.judgement.Judgement.TheVariants.{Void, Bound}

@@ -1,17 +1,14 @@
 -- The laws of the family of linear problems.
-use Rattle.std.specs.Prelude.{◌≡◌, ℕ, zero, suc, ◌+◌, ◌*◌, ◌<◌, ◌≤◌, Bool, true, false, cond, List, ℤ, pos, negsuc, ◌+ℤ◌, ◌-ℤ◌, ◌*ℤ◌, neg_ℤ, ◌≤ℤ◌, Some, None, Ok, Err, Option, Result, unsigned_abs, refl}
-use Rattle.std.proofs.Common.{sym, ◌∙◌, ap, subst, arith, SFits}
+use Rattle.std.specs.Prelude.{◌≡◌, ℕ, zero, suc, ◌+◌, ◌*◌, ◌<◌, ◌≤◌, Bool, true, false, cond, List, ℤ, pos, ◌-ℤ◌, ◌*ℤ◌, neg_ℤ, ◌≤ℤ◌, Some, None, Ok, Err, Option, unsigned_abs, refl}
+use Rattle.std.proofs.Common.{sym, ◌∙◌, ap, subst, arith}
 use Rattle.std.proofs.Math.IntN.{*ℤ_comm}
 use Rattle.std.specs.Int.{w64}
-use Rattle.std.proofs.lemmas.Int.{to_z-of_z, ints}
+use Rattle.std.proofs.lemmas.Int.{ints}
 use Rattle.sums.specs.Sums.{total, dot}
-use Rattle.sums.specs.Duality.{Within, column, level}
 use Rattle.sums.proofs.Ring.{diff_of, diff_same, as-diff, linear}
 use Rattle.sums.proofs.Totals.{total_same, total_scale}
 use Rattle.sums.proofs.Dual.{weak_duality}
-use Rattle.family.specs.declared.fault.ProofFault.{ProofFault}
 use Rattle.family.specs.declared.fault.ProofFault.TheVariants.{NotBalanced}
-use Rattle.family.specs.declared.judgement.Judgement.{Judgement}
 use Rattle.family.specs.declared.judgement.Judgement.TheVariants.{Void, Bound}
 use Rattle.family.specs.declared.side.Side.{Side}
 use Rattle.family.specs.Fractions.{Fraction, Fair, at_most}

@@ -1,16 +1,15 @@
 -- What the lists of a header and of a row hold once they are judged.
-use Rattle.std.proofs.Common.{◌≡◌, ℕ, ◌+◌, ◌<◌, ◌≤◌, Bool, true, false, cond, ◌&&◌, ◌||◌, T, eqb, ltb, List, length, drop, ℤ, pos, negsuc, neg_ℤ, nat_abs, ◌≤ℤ◌, Some, None, Ok, Err, Option, Result, sym, refl, ap, ◌∙◌, subst, arith}
+use Rattle.std.proofs.Common.{◌≡◌, ℕ, ◌+◌, ◌≤◌, Bool, true, false, cond, ◌&&◌, T, eqb, ltb, List, drop, ℤ, pos, negsuc, neg_ℤ, nat_abs, ◌≤ℤ◌, Some, None, Ok, Err, sym, refl, ap, ◌∙◌, subst, arith}
 use borrow.Author.Differences.{ints}
 use lib.Signed.{le_z, le_z_yes}
 use Rattle.std.proofs.lemmas.Bool.{ne_eqb, le-ltb, and_parts, or_from}
 use Rattle.std.specs.Result.{result_and}
-use Rattle.family.specs.declared.fault.ListFault.{ListFault}
 use Rattle.family.specs.declared.fault.ListFault.TheVariants.{Kind as UnknownKind, Ends}
 use Rattle.family.specs.declared.shape.Shape.TheVariants.{Header as HeaderShape, Row as RowShape}
-use Rattle.family.specs.Lists.{limits_at, from_to, around, in_use, length_fault, numbers_fault, number_fault, list_fault}
-use Rattle.family.specs.Numbers.{at, Small}
+use Rattle.family.specs.Lists.{limits_at, from_to, around, in_use, length_fault, numbers_fault, list_fault}
+use Rattle.family.specs.Numbers.{at}
 use Rattle.family.specs.Reading.{gap_of}
-use Rattle.family.proofs.Scans.{and_ok, Fine, Sound, Used, sound, long_from, numbers_fine, used, fine_within}
+use Rattle.family.proofs.Scans.{and_ok, Sound, Used, sound, used, fine_within}
 use Rattle.problem.specs.declared.kind.Kind.{Kind}
 use Rattle.problem.specs.declared.kind.Kind.TheVariants.{Plain, Switch}
 use Rattle.problem.specs.Headers.{rates_in_use, header_fault}

@@ -1,5 +1,5 @@
 -- HEADER and ADD ROW on a draft: what each answers, and what the draft holds then.
-use Rattle.std.specs.Prelude.{◌≡◌, ℕ, Bool, cond, List, drop, replicate, ℤ, pos, negsuc, Ok, Err, Result, ◌==◌, unsigned_abs}
+use Rattle.std.specs.Prelude.{ℕ, Bool, cond, List, drop, replicate, ℤ, pos, negsuc, Ok, Err, Result, ◌==◌, unsigned_abs}
 use Rattle.std.specs.Result.{result_and}
 use Rattle.family.specs.declared.fault.Fault.{Fault}
 use Rattle.family.specs.declared.fault.Fault.TheVariants.{List as list_fault, State as state_fault}

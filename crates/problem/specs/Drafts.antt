@@ -1,7 +1,7 @@
 -- What a draft holds, and what HEADER and ADD ROW make of it.
-use Rattle.std.specs.Prelude.{◌≡◌, ℕ, ◌+◌, Bool, true, cond, List, replicate, ℤ, pos, is_ok, Ok, Err, Result, nat_lt, slice_set}
+use Rattle.std.specs.Prelude.{◌≡◌, ℕ, ◌+◌, cond, List, replicate, ℤ, pos, is_ok, Ok, Err, Result, nat_lt, slice_set}
 use Rattle.family.specs.declared.fault.StateFault.{StateFault}
-use Rattle.family.specs.declared.fault.StateFault.TheVariants.{Full, HasRows}
+use Rattle.family.specs.declared.fault.StateFault.TheVariants.{Full}
 use Rattle.problem.specs.declared.kind.Kind.{Kind}
 use Rattle.problem.specs.declared.row.Row.{Row}
 use Rattle.problem.specs.declared.table.Problem.{Problem}

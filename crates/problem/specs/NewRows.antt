@@ -1,5 +1,5 @@
 -- The list of a row: a kind, two ends and eight coefficients.
-use Rattle.std.specs.Prelude.{◌≡◌, ℕ, Bool, true, false, cond, ◌||◌, List, drop, ℤ, pos, negsuc, Ok, Err, Result, ◌==◌, int_le}
+use Rattle.std.specs.Prelude.{◌≡◌, ℕ, Bool, false, cond, ◌||◌, List, drop, ℤ, pos, negsuc, Ok, Err, Result, ◌==◌, int_le}
 use Rattle.std.specs.Result.{result_and}
 use Rattle.family.specs.declared.fault.ListFault.{ListFault}
 use Rattle.family.specs.declared.fault.ListFault.TheVariants.{Ends, Kind as UnknownKind}

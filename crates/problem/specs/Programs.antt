@@ -1,7 +1,6 @@
 -- A problem as the rules speak of it: a mixed-integer program of n quantities and m rows. Rows are counted
 -- by i < m and quantities by j < n; what stands beyond says nothing.
-use Rattle.std.specs.Prelude.{ℕ, ◌+◌, ◌*◌, cond, ℤ, pos, nat_lt}
-use Rattle.family.specs.Numbers.{at}
+use Rattle.std.specs.Prelude.{ℕ, cond, ℤ, pos, nat_lt}
 use Rattle.problem.specs.declared.kind.Kind.{Kind}
 use Rattle.problem.specs.declared.table.Problem.{Problem}
 use Rattle.problem.specs.Tables.{row_at, cell}

@@ -1,10 +1,8 @@
 -- Which points are admitted: freeing, splitting and the ends under sides.
-use Rattle.std.proofs.Common.{◌≡◌, ℕ, zero, suc, ◌+◌, ◌-◌, ◌<◌, ◌≤◌, Bool, true, false, cond, ◌&&◌, ◌||◌, T, eqb, ◌⊎◌, ℤ, pos, negsuc, ◌*ℤ◌, ◌≤ℤ◌, Some, None, Ok, Err, Option, Result, sym, refl, ap, ◌∙◌, subst, inl, inr, arith}
+use Rattle.std.proofs.Common.{◌≡◌, ℕ, zero, suc, ◌+◌, ◌<◌, ◌≤◌, Bool, true, false, cond, ◌||◌, T, eqb, ◌⊎◌, ℤ, pos, negsuc, ◌≤ℤ◌, Some, None, Ok, Err, Option, sym, refl, ap, ◌∙◌, subst, inl, inr, arith}
 use native.Mathlib.Decide.{ℕ_discrete}
-use borrow.Author.Differences.{ints}
 use lib.Signed.{le_z, le_z_yes, ≤ℤ_refl}
 use Rattle.std.proofs.lemmas.Bool.{and_parts, and_from, or_cases, or_left, or_right, eqb-true, eq-eqb, ne_eqb}
-use Rattle.family.specs.declared.fault.PointFault.{PointFault}
 use Rattle.family.specs.declared.fault.PointFault.TheVariants.{NotAdmitted}
 use Rattle.family.specs.declared.side.Side.{Side}
 use Rattle.family.specs.declared.side.Side.TheVariants.{Lower, Upper}
@@ -16,9 +14,7 @@ use Rattle.problem.specs.declared.kind.Kind.{Kind}
 use Rattle.problem.specs.declared.kind.Kind.TheVariants.{Plain, Switch}
 use Rattle.problem.specs.Kinds.{is_switch}
 use Rattle.problem.specs.Programs.{Program}
-use Rattle.sums.specs.Sums.{dot}
 use Rattle.sums.specs.Duality.{Within}
-use Rattle.rows.specs.Standings.{between, at_end, settled}
 use Rattle.rows.specs.Rules.{value, scaled, keeps, lets, passes, Admitted, stopper, told, admission, fixed_end, low_end, high_end}
 
 -- ---- freeing and fixing one row

@@ -1,5 +1,5 @@
 -- Admission in the rules' own words, and what sides say of rows that are no switches.
-use Rattle.std.proofs.Common.{◌≡◌, ℕ, zero, suc, ◌+◌, ◌<◌, ◌≤◌, Bool, true, false, cond, ◌&&◌, ◌||◌, T, eqb, ltb, ◌⊎◌, ℤ, pos, negsuc, ◌*ℤ◌, ◌≤ℤ◌, Some, None, Option, sym, refl, ap, ◌∙◌, subst, inl, inr, arith}
+use Rattle.std.proofs.Common.{◌≡◌, ℕ, zero, suc, ◌+◌, ◌<◌, ◌≤◌, true, false, cond, ◌&&◌, ◌||◌, ◌⊎◌, ℤ, pos, negsuc, ◌*ℤ◌, Some, None, Option, sym, refl, ap, ◌∙◌, subst, inl, inr, arith}
 use lib.Signed.{le_z, lt_z}
 use Rattle.std.proofs.lemmas.Bool.{and_parts, and_from, or_cases, or_left, or_right, eq-eqb, lt-ltb}
 use Rattle.family.specs.declared.side.Side.{Side}
@@ -10,12 +10,11 @@ use Rattle.problem.specs.declared.kind.Kind.{Kind}
 use Rattle.problem.specs.declared.kind.Kind.TheVariants.{Plain, Switch}
 use Rattle.problem.specs.Kinds.{is_switch}
 use Rattle.problem.specs.Programs.{Program}
-use Rattle.sums.specs.Sums.{total}
 use Rattle.sums.specs.Duality.{met}
 use Rattle.sums.proofs.Totals.{total_same}
 use Rattle.rows.specs.Claims.{end_at, Keeps, Agree}
 use Rattle.rows.specs.Duals.{level_of, column_sum, is_void, met_end}
-use Rattle.rows.specs.Rules.{value, scaled, keeps, lets, passes, Admitted, stopper, told, admission, switch_at, fixed_end, low_end, high_end}
+use Rattle.rows.specs.Rules.{value, scaled, keeps, lets, passes, Admitted, stopper, told, admission, switch_at, fixed_end}
 use Rattle.rows.specs.Zeros.{all_zero}
 use Rattle.rows.proofs.Admission.{same_is, kept_ends, at_low, at_high}
 use Rattle.rows.proofs.Voids.{holds}

@@ -1,5 +1,5 @@
 -- How large the dual quantities of an offered proof can be.
-use Rattle.std.proofs.Common.{◌≡◌, ℕ, ◌*◌, ◌<◌, ◌≤◌, Bool, true, false, cond, ltb, ℤ, pos, ◌*ℤ◌, nat_abs, Some, None, Option, sym, refl, subst, arith}
+use Rattle.std.proofs.Common.{ℕ, ◌*◌, ◌≤◌, Bool, true, false, cond, ltb, ℤ, pos, ◌*ℤ◌, nat_abs, Some, None, Option, arith}
 use lib.Signed.{lt_z}
 use Rattle.std.proofs.lemmas.Nat.{mul-le}
 use Rattle.family.specs.declared.side.Side.{Side}

@@ -14,7 +14,7 @@ use Rattle.family.specs.Points.{AnyPoint}
 use Rattle.family.proofs.Scans.{and_ok}
 use Rattle.problem.specs.Kinds.{is_switch}
 use Rattle.problem.specs.Programs.{Program}
-use Rattle.sums.specs.Sums.{total, dot}
+use Rattle.sums.specs.Sums.{dot}
 use Rattle.sums.proofs.Dual.{weak_duality}
 use Rattle.sums.proofs.Totals.{total_same, total_zero}
 use Rattle.rows.specs.Duals.{column_sum, level_of, is_void}

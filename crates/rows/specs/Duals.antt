@@ -1,8 +1,7 @@
 -- The dual quantities of a proof under sides: column sums, level, and when a proof is void.
-use Rattle.std.specs.Prelude.{ℕ, Bool, ◌&&◌, ℤ, pos, ◌*ℤ◌, Option, int_lt}
+use Rattle.std.specs.Prelude.{ℕ, Bool, ◌&&◌, ℤ, pos, Option, int_lt}
 use Rattle.family.specs.declared.side.Side.{Side}
 use Rattle.problem.specs.Programs.{Program}
-use Rattle.sums.specs.Sums.{dot}
 use Rattle.sums.specs.Duality.{column, met, level}
 use Rattle.rows.specs.Rules.{low_end, high_end}
 use Rattle.rows.specs.Zeros.{all_zero}

@@ -1,5 +1,5 @@
 -- Tests of the first n numbers of a sequence.
-use Rattle.std.specs.Prelude.{ℕ, zero, suc, ◌<◌, Bool, true, false, cond, ℤ, pos, Some, None, Option}
+use Rattle.std.specs.Prelude.{ℕ, zero, suc, Bool, true, false, cond, ℤ, pos}
 use Rattle.family.specs.Numbers.{same}
 
 -- the first n numbers are 0

@@ -1,11 +1,11 @@
 -- What a stopped search tells is what its tally tells.
-use Rattle.std.proofs.Common.{◌≡◌, ℕ, List, length, ℤ, sym, refl, ap, ◌∙◌, subst}
+use Rattle.std.proofs.Common.{◌≡◌, ℕ, List, length, ℤ, sym, ap, subst}
 use Rattle.family.specs.Meaning.{Meaning, Laws}
 use Rattle.search.specs.declared.inner.Inner.{Inner}
 use Rattle.search.specs.declared.report.Report.{Report}
 use Rattle.search.specs.Claims.{Told}
 use Rattle.search.specs.Shows.{Shows, report_in, numbers_in, AfterAny}
-use Rattle.search.specs.Tally.{Tally, Call, fresh, after, verdict_of, cost_of, numbers_of, report_of}
+use Rattle.search.specs.Tally.{Tally, fresh, after, verdict_of, cost_of, numbers_of, report_of}
 use Rattle.search.proofs.Telling.{told}
 
 pub report_is : (s : Inner) (t : Tally) → Shows s t → report_of t ≡ report_in s

@@ -1,5 +1,5 @@
 -- Each call of a search does what it does to the tally.
-use Rattle.std.proofs.Common.{◌≡◌, ℕ, ◌+◌, ◌<◌, Bool, true, false, cond, List, [], ◌∷◌, length, ℤ, Some, None, Ok, Err, Option, Result, sym, refl, ap, ◌∙◌, subst, ap₂, arith}
+use Rattle.std.proofs.Common.{◌≡◌, ℕ, ◌+◌, Bool, true, false, cond, List, ◌∷◌, length, ℤ, Ok, Err, Option, Result, sym, ap, ◌∙◌, subst, ap₂, arith}
 use Rattle.std.specs.Result.{result_map_both}
 use Rattle.family.specs.declared.fault.Fault.{Fault}
 use Rattle.family.specs.declared.judgement.Judgement.{Judgement}
@@ -10,7 +10,7 @@ use Rattle.search.specs.declared.inner.Inner.{Inner}
 use Rattle.search.specs.declared.frontier.Frontier.{Frontier}
 use Rattle.search.specs.declared.outcome.Accepted.{Accepted}
 use Rattle.search.specs.Shows.{held_of, Holding, Shows, Follows}
-use Rattle.search.specs.Tally.{Sides, Call, point, proof, split, Held, Tally, Deed, take, keep, close, branch, rest, closing, branched, apply, changed, told, judged, answer, step, beats, point_cost, proof_shows, split_fixes}
+use Rattle.search.specs.Tally.{Sides, Call, point, proof, split, Held, Tally, Deed, take, keep, close, branch, rest, closing, branched, apply, changed, told, judged, step, beats, point_cost, proof_shows, split_fixes}
 use Rattle.search.specs.View.{nodes_of, closed_of, splits_of, Closed, Forked}
 
 module _ (M : Meaning) (gap : ℕ) (s : Inner) where

@@ -1,5 +1,5 @@
 -- What the judging of offers comes to, step by step.
-use Rattle.std.proofs.Common.{◌≡◌, ℕ, ◌<◌, ◌≤◌, Bool, true, false, cond, ◌&&◌, List, [], ◌∷◌, length, ℤ, pos, negsuc, None, Ok, Err, Option, Result, sym, refl, ap, ◌∙◌, subst, ap₂, arith}
+use Rattle.std.proofs.Common.{◌≡◌, ℕ, ◌<◌, Bool, false, cond, List, [], ◌∷◌, length, ℤ, pos, negsuc, None, Ok, Err, Option, Result, sym, refl, ap, ◌∙◌, subst, ap₂, arith}
 use Rattle.std.proofs.lemmas.Bool.{ne_eqb}
 use Rattle.family.specs.declared.fault.ListFault.TheVariants.{Limit}
 use Rattle.family.specs.declared.side.Side.TheVariants.{Lower, Upper}
@@ -7,8 +7,7 @@ use Rattle.family.specs.Numbers.{same}
 use Rattle.family.specs.Sides.{side_number}
 use Rattle.std.specs.Result.{result_and}
 use Rattle.family.specs.declared.fault.Fault.{Fault}
-use Rattle.family.specs.declared.fault.Fault.TheVariants.{List as in_List, Point as in_point, Proof as in_proof, State as in_state}
-use Rattle.family.specs.declared.fault.PointFault.{PointFault}
+use Rattle.family.specs.declared.fault.Fault.TheVariants.{List as in_List, Proof as in_proof, State as in_state}
 use Rattle.family.specs.declared.fault.ProofFault.{ProofFault}
 use Rattle.family.specs.declared.fault.StateFault.TheVariants.{Weak}
 use Rattle.family.specs.declared.judgement.Judgement.{Judgement}
@@ -23,7 +22,7 @@ use Rattle.family.specs.Meaning.{Meaning, Laws}
 use Rattle.family.specs.Points.{HasPoint, HasProof, any_point, any_proof, point_in, proof_in}
 use Rattle.search.proofs.Steps.{May, point_fine, proof_fine, split_fine}
 use Rattle.search.specs.Shows.{FairJudgement}
-use Rattle.search.specs.Tally.{OnTop, Sides, all_free, is_free, Held, and_then, if_not, list_judged, point_judged, proof_judged, at_current, point_cost, shuts, strong, proof_shows, side_named, split_fixes}
+use Rattle.search.specs.Tally.{OnTop, Sides, all_free, Held, and_then, list_judged, point_judged, proof_judged, at_current, point_cost, shuts, strong, proof_shows, side_named, split_fixes}
 use Rattle.search.proofs.Offers.{offered_point, offered_proof, nine, point_is, proof_is}
 
 -- ---- the numbers of a split

@@ -1,5 +1,5 @@
 -- One more offer of a run, and how a run ends.
-use Rattle.std.proofs.Common.{◌≡◌, ℕ, ◌+◌, ◌<◌, ◌≤◌, List, [], ◌∷◌, ◌++◌, length, get_or, take, set, ℤ, Result, sym, refl, ap, ◌∙◌, subst, ap₂, arith}
+use Rattle.std.proofs.Common.{◌≡◌, ℕ, ◌+◌, ◌<◌, List, [], ◌∷◌, ◌++◌, length, get_or, take, set, ℤ, Result, sym, refl, ap, ◌∙◌, subst, ap₂, arith}
 use Rattle.std.proofs.lemmas.List.{take_all, take_more, take_more_set}
 use Rattle.family.specs.declared.fault.Fault.{Fault}
 use Rattle.family.specs.declared.gap.Gap.{Gap}
@@ -9,10 +9,9 @@ use Rattle.search.specs.declared.inner.Inner.{Inner}
 use Rattle.search.specs.declared.offer.Offer.{Offer}
 use Rattle.search.specs.declared.outcome.Accepted.{Accepted}
 use Rattle.search.specs.declared.report.Report.{Report}
-use Rattle.search.specs.Claims.{Told}
 use Rattle.search.specs.Runs.{call_of, calls_in, Ran}
 use Rattle.search.specs.Shows.{Shows, Follows, report_in, numbers_in}
-use Rattle.search.specs.Tally.{Call, Tally, fresh, answer, answers, step, after, numbers_of, report_of}
+use Rattle.search.specs.Tally.{Call, Tally, fresh, answer, answers, step, after, numbers_of}
 use Rattle.search.specs.Trees.{Finds}
 use Rattle.search.proofs.Ending.{report_is, numbers_are, ended_as}
 use Rattle.search.proofs.Steps.{after_append}

@@ -1,9 +1,9 @@
 -- What is claimed of the tally after any calls, denied ones included, and of the report and the nine numbers that
 -- a stopped search gives.
-use Rattle.std.specs.Prelude.{◌≡◌, ℕ, zero, suc, ◌+◌, ◌<◌, Bool, true, false, cond, not, ◌&&◌, ◌||◌, List, [], ◌∷◌, ◌++◌, length, ℤ, IfOk, Some, None, Ok, Err, Option, Result}
+use Rattle.std.specs.Prelude.{◌≡◌, ℕ, zero, suc, ◌+◌, ◌<◌, Bool, true, false, cond, not, ◌&&◌, ◌||◌, List, [], ◌∷◌, ◌++◌, ℤ, IfOk, Some, None, Ok, Err, Option, Result}
 use Rattle.family.specs.declared.fault.Fault.{Fault}
 use Rattle.family.specs.declared.judgement.Judgement.{Judgement}
-use Rattle.family.specs.declared.shape.Shape.TheVariants.{Point as PointShape, Proof as ProofShape}
+use Rattle.family.specs.declared.shape.Shape.TheVariants.{Point as PointShape}
 use Rattle.family.specs.declared.side.Side.{Side}
 use Rattle.family.specs.Fractions.{Fraction, at_most, cheaper, lessened}
 use Rattle.family.specs.Lists.{list_fault}

@@ -1,5 +1,5 @@
 -- How the state of a search stands for a tally, and what it is to follow the tally.
-use Rattle.std.specs.Prelude.{◌≡◌, ℕ, List, length, ℤ, Some, None, Option, Result}
+use Rattle.std.specs.Prelude.{◌≡◌, ℕ, List, length, ℤ, Some, Option, Result}
 use Rattle.std.specs.Option.{option_map}
 use Rattle.family.specs.declared.fault.Fault.{Fault}
 use Rattle.family.specs.declared.judgement.Judgement.{Judgement}

@@ -1,5 +1,5 @@
 -- Trees of splits with a proof at each leaf, and what a search does with the calls of a complete one.
-use Rattle.std.specs.Prelude.{◌≡◌, ℕ, ◌+◌, Bool, true, List, [], ◌∷◌, ◌++◌, reverse, ℤ, pos, IsOkAnd, Some, None, Ok, Err, Option, Result}
+use Rattle.std.specs.Prelude.{◌≡◌, ℕ, ◌+◌, true, List, [], ◌∷◌, ◌++◌, reverse, ℤ, pos, IsOkAnd, Some, None, Ok, Option, Result}
 use Rattle.family.specs.declared.fault.Fault.{Fault}
 use Rattle.family.specs.declared.judgement.Judgement.{Judgement}
 use Rattle.family.specs.declared.shape.Shape.TheVariants.{Proof as ProofShape}

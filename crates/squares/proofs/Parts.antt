@@ -1,8 +1,8 @@
 -- The numbers of a bound at 64 bits.
-use Rattle.std.proofs.Common.{◌≡◌, ℕ, ◌+◌, ◌*◌, ◌^◌, ◌<◌, ◌≤◌, ℤ, pos, ◌+ℤ◌, ◌-ℤ◌, ◌*ℤ◌, neg_ℤ, nat_abs, sym, refl, ap, ◌∙◌, subst, arith, w64, SFits, to_z, of_z}
+use Rattle.std.proofs.Common.{◌≡◌, ◌+◌, ◌*◌, ◌≤◌, ℤ, pos, ◌+ℤ◌, ◌-ℤ◌, ◌*ℤ◌, neg_ℤ, nat_abs, refl, ap, ◌∙◌, arith, w64, SFits}
 use borrow.Author.Differences.{ints}
 use Rattle.std.proofs.lemmas.Int.{to_z-of_z}
-use Rattle.family.proofs.Casts.{back, Times, times, Plus, plus, arg_back, product_near, near_add, fits64}
+use Rattle.family.proofs.Casts.{back, Times, times, Plus, plus, arg_back, product_near}
 
 module _ (scale squares level : ℤ) (s : nat_abs scale ≤ 1000) (q : nat_abs squares ≤ 5120000000000) (l : nat_abs level ≤ 160000000) where
   two : pos 2 ≡ pos 2

@@ -1,11 +1,11 @@
 -- The exchange of the two sums, and S times p against q times L, for any number of rows and columns.
-use Prim.Native.Nat.{ℕ, zero, suc, ◌<◌}
+use Prim.Native.Nat.{ℕ, zero, suc}
 use native.Mathlib.Omega.{arith}
 use borrow.Author.Differences.{ints}
-use mathlib.Core.Path.{◌≡◌, ap, sym, ◌∙◌}
+use mathlib.Core.Path.{◌≡◌, sym, ◌∙◌}
 use lib.IntN.{ℤ, pos, negsuc, ◌*ℤ◌, *ℤ_comm, zero-*ℤ}
 use lib.Signed.{◌≤ℤ◌}
-use Rattle.sums.specs.Sums.{total, dot}
+use Rattle.sums.specs.Sums.{dot}
 use Rattle.sums.specs.Duality.{column, met, level, Within, Exchange, WeakDuality}
 use Rattle.sums.proofs.Ring.{diff_of, diff_same, as-diff, mul_le, mul_ge, swap}
 use Rattle.sums.proofs.Totals.{total_le, total_scale, total_same, exchange}

@@ -1,4 +1,4 @@
-use Rattle.std.proofs.Common.{◌≡◌, Ok, sym, refl, ap, ◌∙◌}
+use Rattle.std.proofs.Common.{Ok, sym, ap, ◌∙◌}
 use Rattle.file.specs.declared.contents.AnyDraft.{AnyDraft}
 use Rattle.file.specs.Contents.{calls_of, any_data}
 use Rattle.file.specs.Files.{reading}

@@ -1,4 +1,4 @@
-use Rattle.std.proofs.Common.{◌≡◌, length, sym, refl, ap, ◌∙◌, rules}
+use Rattle.std.proofs.Common.{refl, ap, ◌∙◌}
 use Rattle.family.specs.Reading.{gap_value}
 use Rattle.file.specs.Contents.{calls_of}
 use Rattle.judge.specs.Problems.{calls_made}

@@ -1,5 +1,4 @@
-use Rattle.std.proofs.Common.{◌≡◌, ℕ, ◌<◌, length, pos, refl, ◌∙◌, arith, length-set}
-use Rattle.file.specs.declared.call.Call.{Call}
+use Rattle.std.proofs.Common.{◌≡◌, ◌<◌, length, refl, ◌∙◌, arith, length-set}
 use Rattle.judge.proofs.Offering.{one_more, all_made}
 use Rattle.judge.proofs.making.offers_of.Goals as goal
 

@@ -1,9 +1,7 @@
 use Rattle.std.proofs.Common.{◌≡◌, ℕ, ◌*◌, ◌≤◌, nat_abs}
 use Rattle.sums.specs.Sums.{dot}
 use Rattle.family.specs.Points.{multiplier_of}
-use Rattle.family.specs.Reading.{side_of}
 use Rattle.problem.specs.Programs.{program}
-use Rattle.rows.specs.Duals.{met_end}
 use Rattle.rows.proofs.duals.column_sum.Given as goal
 
 abbrev pub invariant-loop-row : goal.invariant-loop-row

@@ -1,4 +1,4 @@
-use Rattle.std.proofs.Common.{◌≡◌, ℕ, ◌*◌, ◌≤◌, nat_abs}
+use Rattle.std.proofs.Common.{◌≡◌, ◌*◌, ◌≤◌, nat_abs}
 use Rattle.sums.specs.Sums.{dot}
 use Rattle.family.specs.Points.{multiplier_of}
 use Rattle.family.specs.Reading.{side_of}

@@ -1,4 +1,4 @@
-use Rattle.std.proofs.Common.{◌*◌, ◌^◌, ◌<◌, arith}
+use Rattle.std.proofs.Common.{arith}
 use Rattle.family.proofs.Casts.{times, arg_back}
 use Rattle.search.proofs.compare.product.Goals as goal
 

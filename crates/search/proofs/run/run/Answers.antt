@@ -1,4 +1,4 @@
-use Rattle.std.proofs.Common.{◌≡◌, ℕ, ◌<◌, List, [], length, get_or, sym, refl, ap, ◌∙◌, arith, length-set, rules}
+use Rattle.std.proofs.Common.{◌≡◌, ◌<◌, [], length, get_or, sym, refl, ap, ◌∙◌, arith, length-set, rules}
 use Rattle.std.proofs.lemmas.Bool.{eq-eqb}
 use Rattle.family.specs.Reading.{gap_value}
 use Rattle.search.specs.declared.offer.Offer.{Offer}

@@ -1,4 +1,4 @@
-use Rattle.std.proofs.Common.{◌≡◌, sym, ◌∙◌, rules}
+use Rattle.std.proofs.Common.{sym, ◌∙◌, rules}
 use Rattle.family.proofs.Scans.{passed, numbers_stop, numbers_go, numbers_end}
 use Rattle.family.proofs.shape.Shape.judge_numbers.Goals as goal
 

@@ -1,4 +1,4 @@
-use Rattle.std.proofs.Common.{◌≡◌, ◌≤◌, nat_abs, Some, None, sym, refl, ◌∙◌, subst, arith}
+use Rattle.std.proofs.Common.{◌≤◌, nat_abs, sym, refl, ◌∙◌, subst, arith}
 use Rattle.family.specs.Numbers.{at}
 use Rattle.family.specs.Points.{scale_of, multiplier_of}
 use Rattle.family.specs.Reading.{side_of}

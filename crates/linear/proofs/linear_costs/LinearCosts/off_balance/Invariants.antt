@@ -1,4 +1,4 @@
-use Rattle.std.proofs.Common.{◌≡◌, ℕ, ◌-◌}
+use Rattle.std.proofs.Common.{◌≡◌, ◌-◌}
 use Rattle.family.specs.Numbers.{at}
 use Rattle.family.specs.Points.{scale_of}
 use Rattle.linear.specs.Bounds.{first_difference, balancing}

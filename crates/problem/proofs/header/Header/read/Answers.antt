@@ -1,9 +1,9 @@
-use Rattle.std.proofs.Common.{◌≡◌, ℕ, ◌≤◌, length, drop, ℤ, pos, nat_abs, sym, ap, ◌∙◌, subst, w32, to_z, of_z, rules}
+use Rattle.std.proofs.Common.{◌≡◌, ◌≤◌, length, pos, nat_abs, sym, ap, ◌∙◌, subst, w32, to_z, of_z, rules}
 use Rattle.std.proofs.lemmas.List.{take_rest}
 use Rattle.family.specs.declared.shape.Shape.TheVariants.{Header as HeaderShape}
 use Rattle.family.specs.Lists.{list_fault}
 use Rattle.family.specs.Numbers.{at, Small}
-use Rattle.problem.proofs.Readings.{HeaderSound, header_sound, gap_is, gap_there}
+use Rattle.problem.proofs.Readings.{header_sound, gap_is, gap_there}
 use Rattle.problem.proofs.header.Header.read.Goals as goal
 
 pub returns-in_default-new : goal.returns-in_default-new

@@ -1,4 +1,4 @@
-use Rattle.std.proofs.Common.{◌≤◌, cond, length, nat_abs, sym, ap, ◌∙◌, arith}
+use Rattle.std.proofs.Common.{◌≤◌, cond, length, nat_abs, sym, ap, ◌∙◌}
 use Rattle.family.specs.Numbers.{at}
 use Rattle.family.proofs.Scans.{past}
 use Rattle.problem.proofs.header.reading.rates_in_use.Goals as goal

@@ -1,6 +1,5 @@
-use Rattle.std.proofs.Common.{◌≡◌, ◌+◌, ◌*◌, ◌≤◌, length, sym, subst, rules}
-use Rattle.family.specs.Numbers.{at, Small}
-use Rattle.problem.specs.Tables.{with_row}
+use Rattle.std.proofs.Common.{◌+◌, ◌*◌, ◌≤◌, length, sym, subst, rules}
+use Rattle.family.specs.Numbers.{Small}
 use Rattle.problem.proofs.Cells.{written, row_small}
 use Rattle.problem.proofs.matrix.Matrix.write_row.Goals as goal
 

@@ -1,5 +1,4 @@
-use Rattle.std.proofs.Common.{◌≡◌, ℕ, ◌≤◌, true, drop, ℤ, pos, nat_abs, ◌≤ℤ◌, sym, ap, ◌∙◌, subst, arith, w32, to_z, of_z, rules}
-use borrow.Author.Differences.{ints}
+use Rattle.std.proofs.Common.{◌≡◌, ◌≤◌, true, nat_abs, sym, ◌∙◌, subst, w32, to_z, of_z, rules}
 use lib.Signed.{le_z}
 use Rattle.std.proofs.lemmas.List.{take_rest}
 use Rattle.family.specs.Numbers.{at, Small}

@@ -1,4 +1,4 @@
-use Rattle.std.proofs.Common.{replicate, pos, sym, subst}
+use Rattle.std.proofs.Common.{replicate, sym, subst}
 use Rattle.problem.specs.Tables.{blank}
 use Rattle.problem.proofs.Growth.{Kept, fresh_kept}
 use Rattle.problem.proofs.table.Problem.fresh.Goals as goal

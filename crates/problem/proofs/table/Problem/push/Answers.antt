@@ -1,4 +1,4 @@
-use Rattle.std.proofs.Common.{◌≡◌, ℕ, ◌<◌, ◌≤◌, length, nat_abs, ◌≤ℤ◌, sym, subst, w32, to_z, of_z, rules}
+use Rattle.std.proofs.Common.{◌≡◌, ◌<◌, ◌≤◌, length, nat_abs, ◌≤ℤ◌, sym, subst, w32, to_z, of_z, rules}
 use Rattle.problem.proofs.Growth.{Kept, pushed}
 use Rattle.problem.proofs.table.Problem.push.Goals as goal
 

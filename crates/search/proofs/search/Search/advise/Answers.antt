@@ -1,4 +1,4 @@
-use Rattle.std.proofs.Common.{◌≡◌, ℕ, ◌-◌, ◌≤◌, Some, None, sym, refl, ap, ◌∙◌, arith}
+use Rattle.std.proofs.Common.{◌≡◌, ◌-◌, ◌≤◌, Some, None, ap, ◌∙◌, arith}
 use Rattle.family.specs.Points.{any_point}
 use Rattle.family.specs.Reading.{side_of}
 use Rattle.search.specs.Advising.{at_row, least_from}

@@ -1,4 +1,4 @@
-use Rattle.std.proofs.Common.{true, false, Err, sym, refl, ap, ◌∙◌}
+use Rattle.std.proofs.Common.{true, false, Err, sym, ap, ◌∙◌}
 use Rattle.family.specs.Reading.{gap_value, side_of}
 use Rattle.family.proofs.Scans.{passed}
 use Rattle.search.specs.Shows.{held_of}

@@ -1,4 +1,4 @@
-use Rattle.std.proofs.Common.{sym, subst}
+use Rattle.std.proofs.Common.{subst}
 use Rattle.problem.specs.declared.table.Problem.{Problem}
 use Rattle.problem.specs.Programs.{program}
 use Rattle.rows.specs.Claims.{PlainMeaning}

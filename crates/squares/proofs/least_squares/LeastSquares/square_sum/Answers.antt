@@ -1,4 +1,4 @@
-use Rattle.std.proofs.Common.{◌≡◌, ℕ, ◌*◌, ◌≤◌, ℤ, ◌*ℤ◌, nat_abs, arith}
+use Rattle.std.proofs.Common.{◌≡◌, ◌*◌, ◌≤◌, ℤ, ◌*ℤ◌, nat_abs, arith}
 use Rattle.sums.specs.Sums.{dot}
 use Rattle.family.specs.Points.{numerator_of}
 use Rattle.rows.proofs.Turns.{ProductTurn, product_turn, at_end}
