@@ -4,7 +4,7 @@ use file::reading::read;
 
 mod lengths;
 mod refusals;
-mod rows;
+mod row_records;
 mod texts;
 mod writes;
 
