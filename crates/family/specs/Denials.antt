@@ -7,18 +7,18 @@ use Rattle.family.specs.declared.fault.StateFault.TheVariants.{NotSwitch, HasRow
 use Rattle.family.specs.declared.fault.Fault.{Fault}
 use Rattle.family.specs.declared.fault.Fault.TheVariants.{List as list, Point as point, Proof as proof, State as state}
 use Rattle.family.specs.declared.fault.Layer.{Layer}
-use Rattle.family.specs.declared.fault.Layer.TheVariants.{List as in_List, Family as in_family, Search as in_search}
+use Rattle.family.specs.declared.fault.Layer.TheVariants.{List as in_list, Family as in_family, Search as in_search}
 use Rattle.family.specs.declared.fault.Denial.{Denial}
 
 abbrev pub told : ℕ → ℕ → Layer → Denial
 told number place layer = record { number = number; place = place; layer = layer }
 
 abbrev pub denial_of : Fault → Denial
-denial_of (list Length) = told 1 0 in_List
-denial_of (list (Limit place)) = told 2 place in_List
-denial_of (list (Filler place)) = told 3 place in_List
-denial_of (list Ends) = told 4 3 in_List
-denial_of (list Kind) = told 5 1 in_List
+denial_of (list Length) = told 1 0 in_list
+denial_of (list (Limit place)) = told 2 place in_list
+denial_of (list (Filler place)) = told 3 place in_list
+denial_of (list Ends) = told 4 3 in_list
+denial_of (list Kind) = told 5 1 in_list
 denial_of (point (NotAdmitted row)) = told 7 row in_family
 denial_of (proof (NotBalanced column)) = told 8 column in_family
 denial_of (state NotSwitch) = told 9 1 in_search

@@ -3,7 +3,7 @@ use Rattle.std.proofs.Common.{◌≡◌, ℕ, ◌+◌, ◌*◌, ◌<◌, ◌≤�
 use Rattle.std.proofs.lemmas.List.{length-take-le}
 use Rattle.std.proofs.lemmas.Bool.{ltb-false}
 use Rattle.family.specs.declared.fault.Fault.{Fault}
-use Rattle.family.specs.declared.fault.Fault.TheVariants.{List as in_List}
+use Rattle.family.specs.declared.fault.Fault.TheVariants.{List as in_list}
 use Rattle.family.specs.declared.fault.ListFault.TheVariants.{Length}
 use Rattle.problem.specs.declared.cost.Linear.{Linear}
 use Rattle.problem.specs.declared.cost.Squares.{Squares}
@@ -43,7 +43,7 @@ module _ (d : Data Linear) (s : Sound d) {from to : List ℕ} (p : Written from 
 room_for : (len m : ℕ) → Ok tt ≡ write_answer len m → 80 * (m + 1) ≤ len
 room_for len m e = by (ltb len (80 * (m + 1))) refl e
   where
-    by : (b : Bool) → ltb len (80 * (m + 1)) ≡ b → ◌≡◌ {A = Result (Unit {0}) Fault} (Ok tt) (cond b (Err (in_List Length)) (Ok tt)) → 80 * (m + 1) ≤ len
+    by : (b : Bool) → ltb len (80 * (m + 1)) ≡ b → ◌≡◌ {A = Result (Unit {0}) Fault} (Ok tt) (cond b (Err (in_list Length)) (Ok tt)) → 80 * (m + 1) ≤ len
     by true t e = let z : ◌≡◌ {A = ℕ} 0 1 = cc in let no : ⊥ = omega arith in elim no [ ]
     by false t e = ltb-false len (80 * (m + 1)) t
 

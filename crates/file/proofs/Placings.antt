@@ -3,7 +3,7 @@ use Rattle.std.proofs.Common.{◌≡◌, ℕ, ◌+◌, ◌*◌, ◌<◌, ◌≤�
 use native.Mathlib.Decide.{dec_lt}
 use Rattle.std.proofs.lemmas.List.{length-append}
 use Rattle.std.proofs.lemmas.Bool.{le-ltb}
-use Rattle.family.specs.declared.fault.Fault.TheVariants.{List as in_List}
+use Rattle.family.specs.declared.fault.Fault.TheVariants.{List as in_list}
 use Rattle.family.specs.declared.fault.ListFault.TheVariants.{Length}
 use Rattle.family.specs.Numbers.{at}
 use Rattle.file.specs.Words.{word}
@@ -72,4 +72,4 @@ rows_written a b c i rows {m} {m'} {family} {family'} {header} {header'} em ef e
 
 -- a place of m + 1 records is not denied
 pub long_enough : (len : ℕ) {m m' : ℕ} → m ≡ m' → 80 * (m + 1) ≤ len → Ok tt ≡ write_answer len m'
-long_enough len {m} {m'} e h = ap (λ b. cond b (Err (in_List Length)) (Ok tt)) (sym (le-ltb len (80 * (m' + 1)) (omega arith)))
+long_enough len {m} {m'} e h = ap (λ b. cond b (Err (in_list Length)) (Ok tt)) (sym (le-ltb len (80 * (m' + 1)) (omega arith)))

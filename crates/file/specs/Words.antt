@@ -1,10 +1,9 @@
 -- The words of a list of bytes: four bytes each, low byte first, in two's complement.
 use Rattle.std.specs.Prelude.{ℕ, zero, suc, ◌+◌, ◌*◌, List, [], ◌∷◌, ◌++◌, ℤ, slice_index}
-use Rattle.std.specs.Int.{w32}
-use Rattle.std.proofs.Common.{to_z}
+use Rattle.std.specs.Int.{w32, cast_signed}
 
 unfoldable pub of_bytes : ℕ → ℕ → ℕ → ℕ → ℤ
-of_bytes a b c d = to_z w32 (a + b * 256 + c * 65536 + d * 16777216)
+of_bytes a b c d = cast_signed w32 (a + b * 256 + c * 65536 + d * 16777216)
 
 -- word k
 abbrev pub word : List ℕ → ℕ → ℤ

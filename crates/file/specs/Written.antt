@@ -1,7 +1,7 @@
 -- Words that are put into a place, and the file that a draft is written as: record 0, and its rows in records 1 to m.
 use Rattle.std.specs.Prelude.{◌≡◌, ℕ, ◌+◌, ◌*◌, ◌<◌, ◌≤◌, true, false, cond, ◌≢◌, List, ◌∷◌, ◌++◌, length, replicate, ℤ, pos, Ok, Err, Result, nat_lt, slice_index}
 use Rattle.family.specs.declared.fault.Fault.{Fault}
-use Rattle.family.specs.declared.fault.Fault.TheVariants.{List as in_List}
+use Rattle.family.specs.declared.fault.Fault.TheVariants.{List as in_list}
 use Rattle.family.specs.declared.fault.ListFault.TheVariants.{Length}
 use Rattle.family.specs.Numbers.{at}
 use Rattle.problem.specs.Listings.{header_list, listed_row}
@@ -66,4 +66,4 @@ WrittenAs from to d = Written from to (rows_in d) (family_of d) (header_of d) (r
 
 -- a place that is shorter than m + 1 records is denied
 abbrev pub write_answer : ℕ → ℕ → Result (Unit {0}) Fault
-write_answer len m = cond (nat_lt len (80 * (m + 1))) (Err (in_List Length)) (Ok tt)
+write_answer len m = cond (nat_lt len (80 * (m + 1))) (Err (in_list Length)) (Ok tt)

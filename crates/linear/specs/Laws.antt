@@ -5,7 +5,7 @@ use Rattle.std.proofs.Math.IntN.{*ℤ_comm}
 use Rattle.std.specs.Int.{w64}
 use Rattle.std.proofs.lemmas.Int.{ints}
 use Rattle.sums.specs.Sums.{total, dot}
-use Rattle.sums.proofs.Ring.{diff_of, diff_same, as-diff, linear}
+use Rattle.sums.proofs.Ring.{diff_of, diff_same, as_diff, linear}
 use Rattle.sums.proofs.Totals.{total_same, total_scale}
 use Rattle.sums.proofs.Dual.{weak_duality}
 use Rattle.family.specs.declared.fault.ProofFault.TheVariants.{NotBalanced}
@@ -69,12 +69,12 @@ column_only false (Some k) f j e = let same : k + 1 ≡ j = cc in (k, refl, same
 -- over plain numbers
 last_step : (s q : ℕ) (C X L : ℤ) → X ≡ neg_ℤ (pos s *ℤ C) → X ≤ℤ (pos q *ℤ L) → (neg_ℤ L *ℤ pos q) ≤ℤ (C *ℤ pos s)
 last_step s q C X L e below =
-    let left : neg_ℤ L *ℤ pos q ≡ neg_ℤ (pos q *ℤ L) = rw (diff_of L) (simp as-diff (diff_same _ _ _ _ (omega arith))) in
+    let left : neg_ℤ L *ℤ pos q ≡ neg_ℤ (pos q *ℤ L) = rw (diff_of L) (simp as_diff (diff_same _ _ _ _ (omega arith))) in
     let right = *ℤ_comm C (pos s) in
     omega (arith, linear)
 
 regroup : (s : ℕ) (c p : ℤ) → neg_ℤ (pos s *ℤ c) *ℤ p ≡ neg_ℤ (pos s *ℤ (c *ℤ p))
-regroup s c p = rw (diff_of c, diff_of p) (simp as-diff (diff_same _ _ _ _ (omega arith)))
+regroup s c p = rw (diff_of c, diff_of p) (simp as_diff (diff_same _ _ _ _ (omega arith)))
 
 total_neg : (n : ℕ) (f : ℕ → ℤ) → total n (λ k. neg_ℤ (f k)) ≡ neg_ℤ (total n f)
 total_neg zero f = refl

@@ -3,7 +3,7 @@ use Rattle.std.proofs.Common.{◌≡◌, ℕ, ◌+◌, ◌-◌, ◌<◌, true, c
 use Rattle.std.specs.Result.{result_and, result_map_both}
 use Rattle.std.proofs.lemmas.Bool.{and_from, le-leb}
 use Rattle.family.specs.declared.fault.Fault.{Fault}
-use Rattle.family.specs.declared.fault.Fault.TheVariants.{List as in_List, State as in_state}
+use Rattle.family.specs.declared.fault.Fault.TheVariants.{List as in_list, State as in_state}
 use Rattle.family.specs.declared.fault.ListFault.TheVariants.{Limit}
 use Rattle.family.specs.declared.fault.StateFault.TheVariants.{NotSwitch, AlreadyFixed, Weak}
 use Rattle.family.specs.declared.judgement.Judgement.{Judgement}
@@ -38,7 +38,7 @@ row_ok m r h =
     let low : leb 1 (r + 1) ≡ true = le-leb 1 (r + 1) (omega arith) in
     let high : leb (r + 1) m ≡ true = le-leb (r + 1) m (omega arith) in
     let back : r + 1 - 1 ≡ r = omega arith in
-    ap (λ b. cond b (Ok (r + 1 - 1)) (Err (in_List (Limit 1)))) (and_from (leb 1 (r + 1)) (leb (r + 1) m) low high) ∙ ap Ok back
+    ap (λ b. cond b (Ok (r + 1 - 1)) (Err (in_list (Limit 1)))) (and_from (leb 1 (r + 1)) (leb (r + 1) m) low high) ∙ ap Ok back
 
 side_ok : (d : Side) → side_named (pos (side_number d)) ≡ Ok d
 side_ok Lower = refl

@@ -7,7 +7,7 @@ use Rattle.family.specs.Numbers.{same}
 use Rattle.family.specs.Sides.{side_number}
 use Rattle.std.specs.Result.{result_and}
 use Rattle.family.specs.declared.fault.Fault.{Fault}
-use Rattle.family.specs.declared.fault.Fault.TheVariants.{List as in_List, Proof as in_proof, State as in_state}
+use Rattle.family.specs.declared.fault.Fault.TheVariants.{List as in_list, Proof as in_proof, State as in_state}
 use Rattle.family.specs.declared.fault.ProofFault.{ProofFault}
 use Rattle.family.specs.declared.fault.StateFault.TheVariants.{Weak}
 use Rattle.family.specs.declared.judgement.Judgement.{Judgement}
@@ -30,10 +30,10 @@ not_same : (z : ℤ) (n : ℕ) → (pos n ≡ z → ⊥) → same z (pos n) ≡ 
 not_same (pos k) n h = ne_eqb k n (λ e. h (ap pos (sym e)))
 not_same (negsuc k) n h = refl
 
-pub side_none : (z : ℤ) → ((d : Side) → pos (side_number d) ≡ z → ⊥) → side_named z ≡ Err (in_List (Limit 2))
+pub side_none : (z : ℤ) → ((d : Side) → pos (side_number d) ≡ z → ⊥) → side_named z ≡ Err (in_list (Limit 2))
 side_none z h =
-    ap (λ b. cond b (Ok Lower) (cond (same z (pos 1)) (Ok Upper) (Err (in_List (Limit 2))))) (not_same z 0 (h Lower))
-    ∙ ap (λ b. cond b (Ok Upper) (Err (in_List (Limit 2)))) (not_same z 1 (h Upper))
+    ap (λ b. cond b (Ok Lower) (cond (same z (pos 1)) (Ok Upper) (Err (in_list (Limit 2))))) (not_same z 0 (h Lower))
+    ∙ ap (λ b. cond b (Ok Upper) (Err (in_list (Limit 2)))) (not_same z 1 (h Upper))
 
 -- the numbers as a callee reads them
 pub fixes_at : (M : Meaning) (nodes : List Sides) (r : Result (ℕ × Side) Fault) {row row' side side' : ℤ} → row' ≡ row → side' ≡ side → r ≡ split_fixes M nodes row' side' → r ≡ split_fixes M nodes row side

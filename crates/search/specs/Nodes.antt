@@ -1,5 +1,5 @@
 -- The open nodes that a stack and a path stand for.
-use Rattle.std.specs.Prelude.{◌≡◌, ℕ, zero, suc, ◌+◌, ◌-◌, ◌^◌, ◌≤◌, Bool, true, cond, ◌&&◌, List, [], ◌∷◌, get_or, ℤ, pos, negsuc, ◌==◌, nat_le, slice_index_or}
+use Rattle.std.specs.Prelude.{◌≡◌, ℕ, zero, suc, ◌+◌, ◌-◌, ◌^◌, ◌≤◌, Bool, true, cond, ◌&&◌, List, [], ◌∷◌, ℤ, pos, negsuc, ◌==◌, nat_le, slice_index_or}
 use Rattle.std.proofs.Common.{lit≤}
 use Rattle.family.specs.declared.side.Side.{Side}
 use Rattle.family.specs.declared.side.Side.TheVariants.{Lower, Upper}
@@ -51,20 +51,20 @@ free_rows (suc n) s = cond (is_free (s n)) 1 0 + free_rows n s
 abbrev pub Sane : List ℤ → List Node → ℕ → ℕ → Type 0
 Sane path stack b zero = Unit {0}
 Sane path stack b (suc n) =
-    let node = get_or stack n root in
+    let node = slice_index_or stack n root in
     (n ≤ node.depth) × (node.depth ≤ b) × (node.depth + free_rows 16 (sides_at path node) ≡ 16) × Sane path stack node.depth n
 
 -- the same as a test
 abbrev pub sane : List ℤ → List Node → ℕ → ℕ → Bool
 sane path stack b zero = true
 sane path stack b (suc n) =
-    let node = get_or stack n root in
+    let node = slice_index_or stack n root in
     nat_le n node.depth && (nat_le node.depth b && (node.depth + free_rows 16 (sides_at path node) == 16 && sane path stack node.depth n))
 
 -- how many leaves the open nodes can still have
 abbrev pub weight : List Node → ℕ → ℕ
 weight stack zero = 0
-weight stack (suc n) = 2 ^ (16 - (get_or stack n root).depth) + weight stack n
+weight stack (suc n) = 2 ^ (16 - (slice_index_or stack n root).depth) + weight stack n
 
 -- the node at depth d that fixes the row r at a side
 pub record Child (r : ℕ) (side : Side) (d : ℕ) (node : Node) : Type 0 where

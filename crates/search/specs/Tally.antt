@@ -10,7 +10,7 @@ use Rattle.family.specs.declared.fault.PointFault.{PointFault}
 use Rattle.family.specs.declared.fault.ProofFault.{ProofFault}
 use Rattle.family.specs.declared.fault.StateFault.TheVariants.{NotSwitch, NoNode, AlreadyFixed, Weak}
 use Rattle.family.specs.declared.fault.Fault.{Fault}
-use Rattle.family.specs.declared.fault.Fault.TheVariants.{List as in_List, Point as in_point, Proof as in_proof, State as in_state}
+use Rattle.family.specs.declared.fault.Fault.TheVariants.{List as in_list, Point as in_point, Proof as in_proof, State as in_state}
 use Rattle.family.specs.declared.judgement.Judgement.{Judgement}
 use Rattle.family.specs.declared.judgement.Judgement.TheVariants.{Void, Bound}
 use Rattle.family.specs.declared.shape.Shape.TheVariants.{Point as PointShape, Proof as ProofShape}
@@ -69,7 +69,7 @@ abbrev pub if_not : Bool → Fault → Result (Unit {0}) Fault
 if_not b fault = cond b (Ok tt) (Err fault)
 
 abbrev pub list_judged : Result (Unit {0}) ListFault → Result (Unit {0}) Fault
-list_judged r = result_map_both (λ u. u) in_List r
+list_judged r = result_map_both (λ u. u) in_list r
 
 abbrev pub point_judged : Result Fraction PointFault → Result Fraction Fault
 point_judged r = result_map_both (λ c. c) in_point r
@@ -109,11 +109,11 @@ proof_shows M gap nodes held list =
 
 -- the index of the row that a number from 1 to m names
 abbrev pub row_named : ℕ → ℤ → Result ℕ Fault
-row_named m z = cond (int_le (pos 1) z && int_le z (pos m)) (Ok (unsigned_abs z - 1)) (Err (in_List (Limit 1)))
+row_named m z = cond (int_le (pos 1) z && int_le z (pos m)) (Ok (unsigned_abs z - 1)) (Err (in_list (Limit 1)))
 
 -- the side that a number names: 0 lower, 1 upper
 abbrev pub side_named : ℤ → Result Side Fault
-side_named z = cond (same z (pos 0)) (Ok Lower) (cond (same z (pos 1)) (Ok Upper) (Err (in_List (Limit 2))))
+side_named z = cond (same z (pos 0)) (Ok Lower) (cond (same z (pos 1)) (Ok Upper) (Err (in_list (Limit 2))))
 
 -- the row and the side that an offered split fixes at the current node
 abbrev pub split_fixes : Meaning → List Sides → ℤ → ℤ → Result (ℕ × Side) Fault

@@ -1,6 +1,6 @@
 // A whole search at once.
 ghost use Rattle.std.specs.Prelude.{◌≡◌, ℕ, Bool, length, is_ok, MatchResult, ◌==◌};
-ghost use Rattle.family.specs.declared.fault.Fault.TheVariants.{List as in_List};
+ghost use Rattle.family.specs.declared.fault.Fault.TheVariants.{List as in_list};
 ghost use Rattle.family.specs.declared.fault.ListFault.TheVariants.{Length};
 ghost use Rattle.family.specs.Reading.{gap_value};
 ghost use Rattle.search.specs.Runs.{calls_in, Ran};
@@ -29,7 +29,7 @@ pub fn run<F: Family + Drop>(
     outcomes: &mut [Result<Accepted, Fault>],
 ) -> Result<Ended, Fault>
     ensures denied { is_ok result ≡ (length outcomes.old == length offers.now) }
-    ensures ran { MatchResult result (λ end. Ran (F.Family.meaning family) (gap_value gap) (calls_in offers.now) end.report end.point outcomes.new) (λ fault. (fault ≡ in_List Length) × (outcomes.new ≡ outcomes.old)) }
+    ensures ran { MatchResult result (λ end. Ran (F.Family.meaning family) (gap_value gap) (calls_in offers.now) end.report end.point outcomes.new) (λ fault. (fault ≡ in_list Length) × (outcomes.new ≡ outcomes.old)) }
 {
     if outcomes.len() != offers.len() {
         return Err(ListFault::Length.into());

@@ -6,7 +6,7 @@ use Rattle.std.proofs.Math.IntN.{*ℤ_comm}
 use Rattle.std.proofs.lemmas.Nat.{mul-le}
 use Rattle.sums.specs.Sums.{total, dot}
 use Rattle.sums.specs.Duality.{Within, column, level}
-use Rattle.sums.proofs.Ring.{diff_of, diff_same, as-diff, square_sum, square_le, mul_le as scaled_le, linear}
+use Rattle.sums.proofs.Ring.{diff_of, diff_same, as_diff, square_sum, square_le, mul_le as scaled_le, linear}
 use Rattle.sums.proofs.Totals.{total_le, total_add, total_scale, total_same, total_zero}
 use Rattle.sums.proofs.Dual.{weak_duality}
 use Rattle.family.specs.declared.fault.ProofFault.{ProofFault}
@@ -57,7 +57,7 @@ last_step : (s q : ℕ) (P T X L : ℤ) → pos 0 ≤ℤ (pos (s * s) *ℤ P +�
 last_step s q P T X L above below =
     let scaled = scaled_le (2 * (s * q)) X (pos q *ℤ L) below in
     let parts : neg_ℤ (T +ℤ pos (2 * s) *ℤ L) *ℤ pos (q * q) ≡ neg_ℤ (pos (q * q) *ℤ T +ℤ pos (2 * (s * q)) *ℤ (pos q *ℤ L)) =
-    rw (diff_of T, diff_of L) (simp as-diff (diff_same _ _ _ _ (omega arith))) in
+    rw (diff_of T, diff_of L) (simp as_diff (diff_same _ _ _ _ (omega arith))) in
     let turned = *ℤ_comm P (pos (s * s)) in
     omega (arith, linear)
 

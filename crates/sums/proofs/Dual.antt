@@ -7,7 +7,7 @@ use lib.IntN.{ℤ, pos, negsuc, ◌*ℤ◌, *ℤ_comm, zero-*ℤ}
 use lib.Signed.{◌≤ℤ◌}
 use Rattle.sums.specs.Sums.{dot}
 use Rattle.sums.specs.Duality.{column, met, level, Within, Exchange, WeakDuality}
-use Rattle.sums.proofs.Ring.{diff_of, diff_same, as-diff, mul_le, mul_ge, swap}
+use Rattle.sums.proofs.Ring.{diff_of, diff_same, as_diff, mul_le, mul_ge, swap}
 use Rattle.sums.proofs.Totals.{total_le, total_scale, total_same, exchange}
 
 -- one row: its multiplier times its value is at most q times the multiplier times the end that it meets
@@ -26,7 +26,7 @@ rows_le m n a lo hi q p y within =
     (total_le m _ _ (λ i h. term_le q (y i) (lo i) (hi i) (dot n (a i) p) (within i h).0 (within i h).1))
 
 regroup : (y a p : ℤ) → y *ℤ (a *ℤ p) ≡ p *ℤ (a *ℤ y)
-regroup y a p = rw (diff_of y, diff_of a, diff_of p) (simp as-diff (diff_same _ _ _ _ (omega arith)))
+regroup y a p = rw (diff_of y, diff_of a, diff_of p) (simp as_diff (diff_same _ _ _ _ (omega arith)))
 
 pub by_columns : Exchange
 by_columns m n a p y =

@@ -1,7 +1,6 @@
 -- Rows and columns of any number: the sums behind a row's value, a proof's column sums and its level,
 -- and the two facts that every bound rests on. Rows are counted by i < m, columns by j < n.
-use Rattle.std.specs.Prelude.{ℕ, ◌<◌, cond, ◌≡◌, ℤ, pos, ◌*ℤ◌, ◌≤ℤ◌}
-use Rattle.std.specs.Int.Signed.{lt_z}
+use Rattle.std.specs.Prelude.{ℕ, ◌<◌, cond, ◌≡◌, ℤ, pos, ◌*ℤ◌, ◌≤ℤ◌, int_lt}
 use Rattle.sums.specs.Sums.{total, dot}
 
 -- S_j: what the multipliers y make of column j
@@ -10,7 +9,7 @@ column m a y j = total m (λ i. a i j *ℤ y i)
 
 -- the end of a row that its multiplier meets: the upper one where the multiplier is positive, else the lower one
 abbrev pub met : ℤ → ℤ → ℤ → ℤ
-met y lo hi = cond (lt_z (pos 0) y) hi lo
+met y lo hi = cond (int_lt (pos 0) y) hi lo
 
 -- L: the level of the multipliers y over the rows' ends
 abbrev pub level : ℕ → (ℕ → ℤ) → (ℕ → ℤ) → (ℕ → ℤ) → ℤ

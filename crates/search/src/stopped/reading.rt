@@ -1,6 +1,6 @@
 // Stopping a search and reading how it ended.
 ghost use Rattle.std.specs.Prelude.{◌≡◌, ℕ, length, IfOk, if◌then◌else◌, Ok, Err, nat_eq};
-ghost use Rattle.family.specs.declared.fault.Fault.TheVariants.{List as in_List};
+ghost use Rattle.family.specs.declared.fault.Fault.TheVariants.{List as in_list};
 ghost use Rattle.family.specs.declared.fault.ListFault.TheVariants.{Length};
 ghost use Rattle.family.specs.Reading.{gap_value};
 ghost use Rattle.search.specs.Shows.{report_in, numbers_in, AfterAny};
@@ -27,7 +27,7 @@ impl<F: Family> Stopped<F> {
     /// The verdict, the cost and the counts; the place, of exactly nine numbers, is filled with the held point, or
     /// with 0 if there is none. A place of another length is left as it was.
     pub fn read(&self, place: &mut [i32]) -> Result<Report, Fault>
-        ensures answer { result ≡ (if nat_eq (length place.old) 9 then Ok (report_in self.now.search.inner) else Err (in_List Length)) }
+        ensures answer { result ≡ (if nat_eq (length place.old) 9 then Ok (report_in self.now.search.inner) else Err (in_list Length)) }
         ensures place { place.new ≡ (if nat_eq (length place.old) 9 then numbers_in self.now.search.inner else place.old) }
         ensures ends { IfOk result (λ report. AfterAny (F.Family.meaning self.now.search.family) (gap_value self.now.search.gap) self.now.search.inner report place.new) }
     {
