@@ -1,12 +1,12 @@
 #!/usr/bin/env python3
 """Brings this repository's own names in specs/ and proofs/ to the spelling of the standard library.
 
-usage: python3 tools/respell.py        at the top of the repository, once, after the toolchain's own script
+usage: python3 tools/respell.py [--clashes]    at the top of the repository, once, after the toolchain's own script
 
 A definition or lemma a-b-c becomes a_b_c, a type or fact A-b becomes AB. Names are collected from the signatures in
 specs/ and proofs/ and from EXTRA. Names that the prover makes keep their spelling: those that a proof reads behind
 c. , l. or w. , and the goals that it answers. Code, strings, inputs and outputs keep theirs. The pages under docs/
-follow where they quote a name. It stops where two names would fall together.
+follow where they quote a name. With --clashes it changes nothing, and lists the names that another item has already.
 """
 
 import os
