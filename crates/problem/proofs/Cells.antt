@@ -1,14 +1,22 @@
 -- The flat matrix: what stands where after a row is written.
-use Rattle.std.proofs.Common.{◌≡◌, ℕ, ◌+◌, ◌-◌, ◌*◌, ◌<◌, ◌≤◌, List, ◌++◌, length, take, drop, replicate, ℤ, pos, nat_abs, sym, ap, ◌∙◌, subst, arith, length-take}
+use Rattle.std.proofs.Common.{◌≡◌, ℕ, ◌+◌, ◌-◌, ◌*◌, ◌<◌, ◌≤◌, Bool, true, false, cond, ltb, List, ◌++◌, length, take, drop, replicate, ℤ, pos, nat_abs, sym, ap, ◌∙◌, subst, arith, length-take}
 use native.Mathlib.Decide.{dec_lt}
 use borrow.Rule.Slice.PartMut.{put_mid, Post-is}
 use lib.ListN.{length-replicate}
 use Rattle.std.proofs.lemmas.List.{get_or_append_left, get_or-append_right, get_or-take, get_or-drop, get_or_past, get_or-replicate}
 use Rattle.family.specs.Numbers.{at, Small}
-use Rattle.problem.specs.Tables.{with_row}
+use Rattle.problem.specs.Tables.{cell, with_row}
 
 pub zeros : (n k : ℕ) → at (replicate n (pos 0)) k ≡ pos 0
 zeros n k = elim (dec_lt k n) [ yes h ↦ get_or-replicate n k (pos 0) (pos 0) h | no h ↦ get_or_past (replicate n (pos 0)) k (pos 0) (omega (arith, length-replicate n (pos 0))) ]
+
+-- a cell of the matrix, or 0 beyond its columns, is as small as the matrix's numbers
+pub cell_near : (b : ℕ) (cells : List ℤ) (r j : ℕ) → Small b cells → nat_abs (cond (ltb j 8) (cell cells r j) (pos 0)) ≤ b
+cell_near b cells r j small = by (ltb j 8)
+  where
+    by : (t : Bool) → nat_abs (cond t (cell cells r j) (pos 0)) ≤ b
+    by true = small (8 * r + j)
+    by false = omega arith
 
 module _ (cells : List ℤ) (r : ℕ) (ys : List ℤ) (room : 8 * r + 8 ≤ length cells) (eight : length ys ≡ 8) where
   before_long : length (take (8 * r) cells) ≡ 8 * r

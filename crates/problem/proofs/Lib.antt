@@ -1,4 +1,3 @@
 pub mod Cells
 pub mod Readings
-pub mod Growth
 pub mod Denials
