@@ -20,7 +20,7 @@ pub(crate) fn copy(bytes: &[u8], k: usize, place: &mut [i32])
     requires { 4 * (k + length place.old) ≤ length bytes.now }
     ensures { place.new ≡ span (word bytes.now) k (length place.old) }
 {
-    for i in 0..place.len() {
-        place[i] = get(bytes, k + i);
+    for (i, number) in place.iter_mut().enumerate() {
+        *number = get(bytes, k + i);
     }
 }
