@@ -99,11 +99,6 @@ fine_in_use b first count index z place e = by (ltb (index - first) count) e
     by true e = omega (arith, ints, fine_within (neg_ℤ (pos b)) (pos b) z place e)
     by false e = omega (arith, ints, fine_zero z place e)
 
--- ---- a list of a head from 1 to 1,000 and numbers around 0
-pub head_of : (z : ℤ) → (pos 1 ≤ℤ z) × (z ≤ℤ pos 1000) → (0 < nat_abs z) × (nat_abs z ≤ 1000) × (pos (nat_abs z) ≡ z)
-head_of (pos n) h = (omega (arith, ints), omega (arith, ints), refl)
-head_of (negsuc n) h = let no : ⊥ = omega (arith, ints) in elim no [ ]
-
 -- a fact of the numbers in a list is one of every index, since 0 stands past the end
 pub small_all : (b n : ℕ) (xs : List ℤ) → length xs ≤ n → ((k : ℕ) → k < n → nat_abs (at xs k) ≤ b) → Small b xs
 small_all b n xs h f k =
@@ -143,35 +138,28 @@ used shape b first size count xs long limits s =
       ];
     }
 
--- ---- points and proofs: q is the list's head, and p are its other numbers, at most b in absolute value
-pub record Scaled (b : ℕ) (xs : List ℤ) (q : ℕ) (p : List ℤ) : Type 0 where
-  pub positive : 0 < q
-  pub fine : q ≤ 1000
-  pub near : Small b p
-  pub head : pos q ≡ at xs 0
-  pub rest : p ≡ drop 1 xs
+-- ---- points and proofs: a denominator, and then numerators of at most b in absolute value
+pub record Offerable (b size : ℕ) (xs : List ℤ) : Type 0 where
+  pub long : length (drop 1 xs) ≡ size
+  pub positive : pos 1 ≤ℤ at xs 0
+  pub fine : at xs 0 ≤ℤ pos 1000
+  pub near : Small b (drop 1 xs)
 
-scaled : (shape : Shape) (b size count : ℕ) (xs : List ℤ) {q : ℕ} {p : List ℤ} → length_of shape ≡ 1 + size → limits_at shape 0 ≡ Some (from_to (pos 1) (pos 1000))
-    → ((k : ℕ) → limits_at shape (1 + k) ≡ in_use 1 count (1 + k) (pos b)) → Sound shape xs → q ≡ nat_abs (at xs 0) → p ≡ drop 1 xs → Scaled b xs q p
-scaled shape b size count xs {q} {p} long first others s qe pe =
+offerable : (shape : Shape) (b size count : ℕ) (xs : List ℤ) → length_of shape ≡ 1 + size → limits_at shape 0 ≡ Some (from_to (pos 1) (pos 1000))
+    → ((k : ℕ) → limits_at shape (1 + k) ≡ in_use 1 count (1 + k) (pos b)) → Sound shape xs → Offerable b size xs
+offerable shape b size count xs long first others s =
     let some : 0 < length xs = omega (arith, s.long) in
-    let at_head = fine_within (pos 1) (pos 1000) (at xs 0) 1 (subst (λ l. number_fault l (at xs 0) (0 + 1) ≡ Ok tt) first (s.fine 0 some)) in
-    let h = head_of (at xs 0) at_head in
-    record {
-      positive = subst (λ n. 0 < n) (sym qe) h.0;
-      fine = subst (λ n. n ≤ 1000) (sym qe) h.1;
-      near = subst (Small b) (sym pe) (used shape b 1 size count xs long others s).small;
-      head = ap pos qe ∙ h.2;
-      rest = pe;
-    }
+    let head = fine_within (pos 1) (pos 1000) (at xs 0) 1 (subst (λ l. number_fault l (at xs 0) (0 + 1) ≡ Ok tt) first (s.fine 0 some)) in
+    let rest = used shape b 1 size count xs long others s in
+    record { long = rest.long; positive = head.0; fine = head.1; near = rest.small }
 
 after_head : (k : ℕ) → eqb (1 + k) 0 ≡ false
 after_head k = ne_eqb (1 + k) 0 (λ e. omega arith)
 
-pub point_read : (n : ℕ) (xs : List ℤ) {q : ℕ} {p : List ℤ} → Ok tt ≡ list_fault (PointShape n) xs → q ≡ nat_abs (at xs 0) → p ≡ drop 1 xs → Scaled 1000000 xs q p
-point_read n xs e qe pe =
-    scaled (PointShape n) 1000000 8 n xs refl refl (λ k. ap (λ b. cond b (Some (from_to (pos 1) (pos 1000))) (in_use 1 n (1 + k) (pos 1000000))) (after_head k)) (sound (PointShape n) xs (sym e)) qe pe
+pub point_read : (n : ℕ) (xs : List ℤ) → Ok tt ≡ list_fault (PointShape n) xs → Offerable 1000000 8 xs
+point_read n xs e =
+    offerable (PointShape n) 1000000 8 n xs refl refl (λ k. ap (λ b. cond b (Some (from_to (pos 1) (pos 1000))) (in_use 1 n (1 + k) (pos 1000000))) (after_head k)) (sound (PointShape n) xs (sym e))
 
-pub proof_read : (m : ℕ) (xs : List ℤ) {q : ℕ} {p : List ℤ} → Ok tt ≡ list_fault (ProofShape m) xs → q ≡ nat_abs (at xs 0) → p ≡ drop 1 xs → Scaled 1000 xs q p
-proof_read m xs e qe pe =
-    scaled (ProofShape m) 1000 16 m xs refl refl (λ k. ap (λ b. cond b (Some (from_to (pos 1) (pos 1000))) (in_use 1 m (1 + k) (pos 1000))) (after_head k)) (sound (ProofShape m) xs (sym e)) qe pe
+pub proof_read : (m : ℕ) (xs : List ℤ) → Ok tt ≡ list_fault (ProofShape m) xs → Offerable 1000 16 xs
+proof_read m xs e =
+    offerable (ProofShape m) 1000 16 m xs refl refl (λ k. ap (λ b. cond b (Some (from_to (pos 1) (pos 1000))) (in_use 1 m (1 + k) (pos 1000))) (after_head k)) (sound (ProofShape m) xs (sym e))

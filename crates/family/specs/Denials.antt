@@ -1,5 +1,5 @@
 -- What each fault tells: its number, its place (0 where there is none) and its layer.
-use Rattle.std.specs.Prelude.{ℕ}
+use Rattle.std.specs.Prelude.{ℕ, List, ◌++◌, codes, decimal}
 use Rattle.family.specs.declared.fault.ListFault.TheVariants.{Length, Limit, Filler, Ends, Kind}
 use Rattle.family.specs.declared.fault.PointFault.TheVariants.{NotAdmitted}
 use Rattle.family.specs.declared.fault.ProofFault.TheVariants.{NotBalanced}
@@ -27,3 +27,7 @@ denial_of (state Full) = told 11 0 in_search
 denial_of (state NoNode) = told 12 0 in_search
 denial_of (state AlreadyFixed) = told 13 1 in_search
 denial_of (state Weak) = told 14 0 in_search
+
+-- what is printed of a denial
+abbrev pub denial_text : Denial → List ℕ
+denial_text d = codes "denied " ++ (decimal d.number ++ (codes " " ++ decimal d.place))

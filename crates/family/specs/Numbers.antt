@@ -1,5 +1,5 @@
 -- Lists of whole numbers as functions of an index.
-use Rattle.std.specs.Prelude.{◌≡◌, ℕ, ◌≤◌, Bool, false, List, ℤ, pos, negsuc, Option, MatchOption, ◌==◌, ◌≢◌, slice_index_or, unsigned_abs}
+use Rattle.std.specs.Prelude.{◌≡◌, ℕ, ◌≤◌, Bool, false, List, ℤ, pos, negsuc, Result, MatchResult, ◌==◌, ◌≢◌, slice_index_or, unsigned_abs}
 
 -- what stands at index k, and 0 past the end
 abbrev pub at : List ℤ → ℕ → ℤ
@@ -9,9 +9,9 @@ at xs k = slice_index_or xs k (pos 0)
 abbrev pub Small : ℕ → List ℤ → Type 0
 Small b xs = (k : ℕ) → unsigned_abs (at xs k) ≤ b
 
--- r is the case of an enumeration that has the number z; None where no case has it
-abbrev pub Numbered : {T : Type 0} → (T → ℕ) → ℤ → Option T → Type 0
-Numbered {T} number z r = MatchOption r ((x : T) → pos (number x) ≢ z) (λ x. pos (number x) ≡ z)
+-- r is the case of an enumeration that has the number z; an error where no case has it
+abbrev pub Numbered : {T E : Type 0} → (T → ℕ) → ℤ → Result T E → Type 0
+Numbered {T} number z r = MatchResult r (λ x. pos (number x) ≡ z) (λ _. (x : T) → pos (number x) ≢ z)
 
 -- whether two numbers are equal
 abbrev pub same : ℤ → ℤ → Bool

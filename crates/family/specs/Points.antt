@@ -1,30 +1,24 @@
 -- The numbers of a point and of a proof, and what their lists hold.
 use Rattle.std.specs.Prelude.{◌≡◌, ℕ, ◌<◌, ◌≤◌, List, drop, ℤ, pos, unsigned_abs}
-use Rattle.family.specs.declared.point.Point.{Point}
-use Rattle.family.specs.declared.proof.Proof.{Proof}
+use Rattle.family.specs.declared.offered.Offered.{Offered}
 use Rattle.family.specs.Numbers.{at}
 
-abbrev pub denominator_of : Point → ℕ
-denominator_of x = x.q
+abbrev pub Point : Type 0
+Point = Offered 8 1000000
 
-abbrev pub numerator_of : Point → ℕ → ℤ
-numerator_of x = at x.p
+abbrev pub Proof : Type 0
+Proof = Offered 16 1000
+
+abbrev pub denominator_of : {count bound : ℕ} → Offered count bound → ℕ
+denominator_of x = x.denominator
+
+abbrev pub numerator_of : {count bound : ℕ} → Offered count bound → ℕ → ℤ
+numerator_of x = at x.numerators
 
 -- a list holds a denominator and then the numerators
-pub record HasPoint (list : List ℤ) (x : Point) : Type 0 where
-  pub head : pos x.q ≡ at list 0
-  pub rest : x.p ≡ drop 1 list
-
-abbrev pub scale_of : Proof → ℕ
-scale_of x = x.s
-
-abbrev pub multiplier_of : Proof → ℕ → ℤ
-multiplier_of x = at x.y
-
--- a list holds a scale and then the multipliers
-pub record HasProof (list : List ℤ) (x : Proof) : Type 0 where
-  pub head : pos x.s ≡ at list 0
-  pub rest : x.y ≡ drop 1 list
+pub record Holds {count bound : ℕ} (list : List ℤ) (x : Offered count bound) : Type 0 where
+  pub head : pos x.denominator ≡ at list 0
+  pub rest : x.numerators ≡ drop 1 list
 
 -- a point of any size, q at least 1 where a law says so: the quantities p j / q
 pub record AnyPoint : Type 0 where
@@ -42,7 +36,7 @@ pub record AnyProof : Type 0 where
 
 -- an offered proof as a proof
 abbrev pub any_proof : Proof → AnyProof
-any_proof x = record { s = scale_of x; y = multiplier_of x }
+any_proof x = record { s = denominator_of x; y = numerator_of x }
 
 -- the point and the proof that a list of numbers holds
 abbrev pub point_in : List ℤ → AnyPoint

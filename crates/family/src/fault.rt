@@ -2,7 +2,7 @@
 mod denying;
 
 /// What a list of numbers shows by itself.
-#[derive(Clone, Copy)]
+#[derive(Clone, Copy, Debug, PartialEq, Eq)]
 pub enum ListFault {
     /// The list has the wrong length.
     Length,
@@ -17,21 +17,21 @@ pub enum ListFault {
 }
 
 /// Why a family does not take a point.
-#[derive(Clone, Copy)]
+#[derive(Clone, Copy, Debug, PartialEq, Eq)]
 pub enum PointFault {
     /// This row, counted from 1, stops the point.
     NotAdmitted { row: usize },
 }
 
 /// Why a family does not take a proof.
-#[derive(Clone, Copy)]
+#[derive(Clone, Copy, Debug, PartialEq, Eq)]
 pub enum ProofFault {
     /// This column, counted from 1, does not balance.
     NotBalanced { column: usize },
 }
 
 /// What a draft or a search does not allow in its present state.
-#[derive(Clone, Copy)]
+#[derive(Clone, Copy, Debug, PartialEq, Eq)]
 pub enum StateFault {
     /// The row to split at is no switch.
     NotSwitch,
@@ -48,7 +48,7 @@ pub enum StateFault {
 }
 
 /// Why a call is denied.
-#[derive(Clone, Copy)]
+#[derive(Clone, Copy, Debug, PartialEq, Eq)]
 pub enum Fault {
     List(ListFault),
     Point(PointFault),
@@ -57,7 +57,7 @@ pub enum Fault {
 }
 
 /// The part of the selector that a denial speaks for.
-#[derive(Clone, Copy)]
+#[derive(Clone, Copy, Debug, PartialEq, Eq)]
 pub enum Layer {
     List,
     Family,
@@ -66,7 +66,7 @@ pub enum Layer {
 }
 
 /// A denial as it is told to the outside. The place is 0 where there is none to tell.
-#[derive(Clone, Copy)]
+#[derive(Clone, Copy, Debug, PartialEq, Eq)]
 pub struct Denial {
     pub number: u8,
     pub place: usize,

@@ -9,12 +9,14 @@ ghost use Rattle.family.specs.Reading.{side_of};
 pub mod fault;
 pub mod gap;
 pub mod judgement;
+pub mod offered;
 pub mod point;
 pub mod position;
 pub mod proof;
 pub mod shape;
 pub mod side;
 pub mod sides;
+pub mod sizes;
 
 use fault::{PointFault, ProofFault};
 use judgement::Judgement;

@@ -1,16 +1,8 @@
 // A point that a solver offers.
-ghost use Rattle.std.specs.Prelude.{ℕ, ◌<◌, ◌≤◌};
-ghost use Rattle.family.specs.Numbers.{Small};
+use crate::offered::Offered;
+use crate::sizes::QUANTITIES;
 
 mod reading;
 
-/// The quantities p_j / q. Numerators beyond the problem's quantities are fillers: they are 0 in what was
-/// read, and no rule looks at them.
-#[derive(Clone, Copy)]
-pub struct Point {
-    q: u32,
-    p: [i32; 8],
-    ghost positive: { 0 < q },
-    ghost fine: { q ≤ 1000 },
-    ghost near: { Small 1000000 p },
-}
+/// The quantities p_j / q: a numerator for each quantity, over the denominator q.
+pub type Point = Offered<QUANTITIES, 1_000_000>;

@@ -1,16 +1,8 @@
 // A proof that a solver offers.
-ghost use Rattle.std.specs.Prelude.{ℕ, ◌<◌, ◌≤◌};
-ghost use Rattle.family.specs.Numbers.{Small};
+use crate::offered::Offered;
+use crate::sizes::ROWS;
 
 mod reading;
 
-/// Multipliers y_i for the rows, over the scale s. Multipliers beyond the problem's rows are fillers: they are 0 in what was
-/// read, and no rule looks at them.
-#[derive(Clone, Copy)]
-pub struct Proof {
-    s: u32,
-    y: [i32; 16],
-    ghost positive: { 0 < s },
-    ghost fine: { s ≤ 1000 },
-    ghost near: { Small 1000 y },
-}
+/// Multipliers y_i / s: a numerator for each row, over the scale s.
+pub type Proof = Offered<ROWS, 1_000>;

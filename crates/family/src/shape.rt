@@ -2,14 +2,14 @@
 mod judging;
 
 /// The least and the largest number that may stand at a place.
-#[derive(Clone, Copy)]
+#[derive(Clone, Copy, Debug, PartialEq, Eq)]
 pub struct Limits {
     pub low: i32,
     pub high: i32,
 }
 
 /// A list that a call takes, with how many of its numbers are in use; the numbers after those are fillers.
-#[derive(Clone, Copy)]
+#[derive(Clone, Copy, Debug, PartialEq, Eq)]
 pub enum Shape {
     /// A denominator and eight numerators.
     Point { quantities: usize },

@@ -2,8 +2,12 @@
 mod numbering;
 
 /// An end of a switch row.
-#[derive(Clone, Copy)]
+#[derive(Clone, Copy, Debug, PartialEq, Eq)]
 pub enum Side {
     Lower,
     Upper,
 }
+
+/// A number that stands for no side.
+#[derive(Clone, Copy, Debug, PartialEq, Eq)]
+pub struct UnknownSide(pub i32);

@@ -1,4 +1,2 @@
 pub mod Cells
 pub mod Readings
-pub mod Growth
-pub mod Denials

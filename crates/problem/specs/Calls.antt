@@ -23,7 +23,7 @@ pub record Data (C : Type 0) : Type 0 where
   pub problem : ProblemData
 
 abbrev pub data_of : {C : Type 0} → Draft C → Data C
-data_of d = record { cost = d.cost; gap = d.gap.value; rates = d.rates.rates; problem = problem_data d.problem }
+data_of d = record { cost = d.cost; gap = d.gap.value; rates = d.rates.numbers; problem = problem_data d.problem }
 
 -- one quantity, gap and rates 0, no rows
 abbrev pub fresh_draft : {C : Type 0} → C → Data C
@@ -64,5 +64,5 @@ with_listed_row d list = record {
   cost = d.cost;
   gap = d.gap;
   rates = d.rates;
-  problem = with_new_row d.problem (kind_of (at list 0)) (at list 1) (at list 2) (drop 3 list);
+  problem = with_new_row d.problem (record { kind = kind_of (at list 0); lo = at list 1; hi = at list 2 }) (drop 3 list);
 }

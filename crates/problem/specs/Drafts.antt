@@ -1,21 +1,19 @@
 -- What a draft holds, and what HEADER and ADD ROW make of it.
-use Rattle.std.specs.Prelude.{◌≡◌, ℕ, ◌+◌, cond, List, replicate, ℤ, pos, is_ok, Ok, Err, Result, nat_lt, slice_set}
+use Rattle.std.specs.Prelude.{◌≡◌, ℕ, ◌+◌, cond, List, replicate, ℤ, pos, is_ok, Ok, Err, Result, map, nat_lt, slice_set}
 use Rattle.family.specs.declared.fault.StateFault.{StateFault}
 use Rattle.family.specs.declared.fault.StateFault.TheVariants.{Full}
-use Rattle.problem.specs.declared.kind.Kind.{Kind}
-use Rattle.problem.specs.declared.row.Row.{Row}
 use Rattle.problem.specs.declared.table.Problem.{Problem}
-use Rattle.problem.specs.Tables.{blank, with_row}
+use Rattle.problem.specs.Tables.{RowData, row_data, blank, with_row}
 
 -- the numbers of a problem: quantities, rows in use, the table and the flat matrix
 pub record ProblemData : Type 0 where
   pub n : ℕ
   pub m : ℕ
-  pub rows : List Row
+  pub rows : List RowData
   pub cells : List ℤ
 
 abbrev pub problem_data : Problem → ProblemData
-problem_data p = record { n = p.n; m = p.m; rows = p.rows; cells = p.matrix.cells }
+problem_data p = record { n = p.n; m = p.m; rows = map row_data p.rows; cells = p.matrix.cells }
 
 -- one quantity and no rows
 abbrev pub fresh_problem : ProblemData
@@ -25,11 +23,11 @@ abbrev pub with_quantities : ProblemData → ℕ → ProblemData
 with_quantities d n = record { n = n; m = d.m; rows = d.rows; cells = d.cells }
 
 -- the next free row is filled, and every other is left
-abbrev pub with_new_row : ProblemData → Kind → ℤ → ℤ → List ℤ → ProblemData
-with_new_row d kind lo hi coefficients = record {
+abbrev pub with_new_row : ProblemData → RowData → List ℤ → ProblemData
+with_new_row d row coefficients = record {
   n = d.n;
   m = d.m + 1;
-  rows = slice_set d.rows d.m (record { kind = kind; lo = lo; hi = hi });
+  rows = slice_set d.rows d.m row;
   cells = with_row d.cells d.m coefficients;
 }
 

@@ -17,4 +17,4 @@ header_fault rated list = list_fault (HeaderShape (rates_in_use rated list)) lis
 pub record HasHeader (list : List ℤ) (h : Header) : Type 0 where
   pub n : pos h.n ≡ at list 0
   pub gap : pos h.gap.value ≡ at list 1
-  pub rates : h.rates.rates ≡ drop 2 list
+  pub rates : h.rates.numbers ≡ drop 2 list

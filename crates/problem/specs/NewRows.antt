@@ -29,7 +29,7 @@ row_fault n list =
 
 -- a list holds a kind, the ends and then the coefficients
 pub record HasRow (list : List ℤ) (r : NewRow) : Type 0 where
-  pub kind : pos (kind_number r.kind) ≡ at list 0
-  pub lo : r.lo ≡ at list 1
-  pub hi : r.hi ≡ at list 2
-  pub coefficients : r.coefficients ≡ drop 3 list
+  pub kind : pos (kind_number r.row.kind) ≡ at list 0
+  pub lo : r.row.lo ≡ at list 1
+  pub hi : r.row.hi ≡ at list 2
+  pub coefficients : r.coefficients.numbers ≡ drop 3 list

@@ -1,14 +1,24 @@
 -- The table of rows and the flat matrix of coefficients. Rows and columns are counted from 0.
 use Rattle.std.specs.Prelude.{ℕ, ◌+◌, ◌*◌, List, ◌++◌, take, drop, ℤ, pos, slice_index_or}
 use Rattle.family.specs.Numbers.{at}
+use Rattle.problem.specs.declared.kind.Kind.{Kind}
 use Rattle.problem.specs.declared.kind.Kind.TheVariants.{Plain}
 use Rattle.problem.specs.declared.row.Row.{Row}
 
+-- a kind and two ends, of any size and in any order
+pub record RowData : Type 0 where
+  pub kind : Kind
+  pub lo : ℤ
+  pub hi : ℤ
+
+abbrev pub row_data : Row → RowData
+row_data r = record { kind = r.kind; lo = r.lo; hi = r.hi }
+
 -- a row that is not in use
-abbrev pub blank : Row
+abbrev pub blank : RowData
 blank = record { kind = Plain; lo = pos 0; hi = pos 0 }
 
-abbrev pub row_at : List Row → ℕ → Row
+abbrev pub row_at : List RowData → ℕ → RowData
 row_at rows i = slice_index_or rows i blank
 
 -- row r, column j of the flat matrix

@@ -17,5 +17,5 @@ pub struct Draft<C> {
     gap: Gap,
     rates: Rates,
     problem: Problem,
-    ghost fillers: { ((j : ℕ) → problem.n ≤ j → at rates.rates j ≡ pos 0) },
+    ghost fillers: { ((j : ℕ) → problem.n ≤ j → at rates.numbers j ≡ pos 0) },
 }

@@ -1,6 +1,7 @@
 // A problem and the draft that it grows in.
 #![tactic(auto)]
 
+pub mod coefficients;
 pub mod cost;
 pub mod draft;
 mod header;
@@ -9,4 +10,5 @@ mod matrix;
 mod new_row;
 pub mod rates;
 pub mod row;
+mod sizes;
 pub mod table;

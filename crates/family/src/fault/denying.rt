@@ -1,9 +1,10 @@
 // The number, place and layer of each fault, and how a fault is passed on.
-ghost use Rattle.std.specs.Prelude.{◌≡◌};
-ghost use Rattle.family.specs.Denials.{denial_of};
+ghost use Rattle.std.specs.Prelude.{◌≡◌, Some};
+ghost use Rattle.family.specs.Denials.{denial_of, denial_text};
 ghost use Rattle.family.specs.declared.fault.Fault.TheVariants.{List, Point, Proof, State};
 
 use crate::fault::{Denial, Fault, Layer, ListFault, PointFault, ProofFault, StateFault};
+use std::fmt;
 
 impl Fault {
     /// What is told to the outside of this fault.
@@ -33,6 +34,15 @@ impl Fault {
     }
 }
 
+impl fmt::Display for Denial {
+    ghost output = { λ x. Some (denial_text x) };
+
+    fn fmt<W: fmt::Write>(&self, f: &mut fmt::Formatter<W>) -> fmt::Result {
+        write!(f, "denied {} {}", self.number, self.place)
+    }
+}
+
+// `From` by hand: a derive gives no contract, and the contracts above name the fault that `?` makes.
 impl From<ListFault> for Fault {
     ghost from_gives = { λ e r. r ≡ List e };
 

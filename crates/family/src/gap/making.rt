@@ -5,19 +5,18 @@ ghost use Rattle.family.specs.Reading.{gap_value, gap_of};
 
 use crate::gap::Gap;
 
-const LARGEST: i32 = 1_000_000;
+const LARGEST: u32 = 1_000_000;
 
 impl Gap {
     /// The gap of this size, or None outside 0 to 1,000,000.
     pub fn new(value: i32) -> Option<Gap>
         ensures { option_map gap_value result ≡ gap_of value }
     {
-        if value < 0 || value > LARGEST {
+        let value = u32::try_from(value).ok()?;
+        if value > LARGEST {
             return None;
         }
-        Some(Gap {
-            value: value.unsigned_abs(),
-        })
+        Some(Gap { value })
     }
 
     /// No gap at all.

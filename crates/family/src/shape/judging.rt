@@ -30,20 +30,10 @@ fn judge_number(limits: Option<Limits>, number: i32, place: usize) -> Result<(),
     ensures { result ≡ number_fault limits number place }
 {
     match limits {
-        Some(limits) => {
-            if limits.hold(number) {
-                Ok(())
-            } else {
-                Err(ListFault::Limit { place })
-            }
-        }
-        None => {
-            if number == 0 {
-                Ok(())
-            } else {
-                Err(ListFault::Filler { place })
-            }
-        }
+        Some(limits) if limits.hold(number) => Ok(()),
+        Some(_) => Err(ListFault::Limit { place }),
+        None if number == 0 => Ok(()),
+        None => Err(ListFault::Filler { place }),
     }
 }
 
@@ -53,11 +43,7 @@ fn in_use(first: usize, count: usize, index: usize, bound: i32) -> Option<Limits
     requires bound { pos 0 ≤ℤ bound }
     ensures { result ≡ in_use first count index bound }
 {
-    if index - first < count {
-        Some(Limits::around(bound))
-    } else {
-        None
-    }
+    (index - first < count).then(|| Limits::around(bound))
 }
 
 impl Shape {
@@ -78,15 +64,11 @@ impl Shape {
         ensures { result ≡ limits_at self index }
     {
         match (self, index) {
-            (Shape::Point { .. }, 0) => Some(Limits {
+            (Shape::Point { .. } | Shape::Proof { .. }, 0) => Some(Limits {
                 low: 1,
                 high: 1_000,
             }),
             (Shape::Point { quantities }, _) => in_use(1, quantities, index, 1_000_000),
-            (Shape::Proof { .. }, 0) => Some(Limits {
-                low: 1,
-                high: 1_000,
-            }),
             (Shape::Proof { rows }, _) => in_use(1, rows, index, 1_000),
             (Shape::Header { .. }, 0) => Some(Limits { low: 1, high: 8 }),
             (Shape::Header { .. }, 1) => Some(Limits {

@@ -1,19 +1,20 @@
 // The numbers that stand for sides in an offer.
-ghost use Rattle.std.specs.Prelude.{◌≡◌, pos, MatchOption};
 ghost use Rattle.family.specs.Sides.{side_number};
 ghost use Rattle.family.specs.Numbers.{Numbered};
 
-use crate::side::Side;
+use crate::side::{Side, UnknownSide};
 
-impl Side {
-    /// The side that a number stands for, or None.
-    pub fn from_number(number: i32) -> Option<Side>
-        ensures { Numbered side_number number result }
-    {
+impl TryFrom<i32> for Side {
+    type Error = UnknownSide;
+
+    ghost try_from_gives = { Numbered side_number };
+
+    /// The side that a number stands for.
+    fn try_from(number: i32) -> Result<Side, UnknownSide> {
         match number {
-            0 => Some(Side::Lower),
-            1 => Some(Side::Upper),
-            _ => None,
+            0 => Ok(Side::Lower),
+            1 => Ok(Side::Upper),
+            _ => Err(UnknownSide(number)),
         }
     }
 }

@@ -5,8 +5,7 @@ ghost use Rattle.family.specs.Reading.{side_of};
 
 use crate::side::Side;
 use crate::sides::Sides;
-
-const ROWS: usize = 16;
+use crate::sizes::ROWS;
 
 impl Sides {
     /// Every row free.

@@ -23,7 +23,7 @@ impl<C: Cost> Draft<C> {
         let gap = self.gap.value() as i32;
         let mut list = [n, gap, 0, 0, 0, 0, 0, 0, 0, 0];
         if self.cost.rated() {
-            list[2..].copy_from_slice(&self.rates.all());
+            list[2..].copy_from_slice(&self.rates.numbers);
         }
         list
     }
@@ -34,7 +34,7 @@ impl<C: Cost> Draft<C> {
         ensures { result ≡ listed_row (data_of self.now) index }
     {
         let row = self.problem.row(index);
-        let kind = row.kind.number();
+        let kind = row.kind.into();
         let mut list = [kind, row.lo, row.hi, 0, 0, 0, 0, 0, 0, 0, 0];
         list[3..].copy_from_slice(&self.problem.coefficients(index));
         list

@@ -20,7 +20,7 @@ impl<C: Cost> Draft<C> {
         Draft {
             cost,
             gap: Gap::zero(),
-            rates: Rates::zero(),
+            rates: Rates::default(),
             problem: Problem::fresh(),
         }
     }

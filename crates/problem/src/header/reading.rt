@@ -13,12 +13,10 @@ use family::shape::Shape;
 fn rates_in_use(rated: bool, list: &[i32]) -> usize
     ensures { result ≡ rates_in_use rated list.now }
 {
-    if !rated {
-        return 0;
-    }
-    match list.first() {
-        Some(n) => n.unsigned_abs() as usize,
-        None => 0,
+    if rated {
+        list.first().map_or(0, |n| n.unsigned_abs() as usize)
+    } else {
+        0
     }
 }
 
@@ -32,12 +30,9 @@ impl Header {
         let [n, gap, rates @ ..] = list else {
             return Err(ListFault::Length);
         };
-        let Some(gap) = Gap::new(*gap) else {
-            return Err(ListFault::Limit { place: 2 });
-        };
         Ok(Header {
             n: n.unsigned_abs() as usize,
-            gap,
+            gap: Gap::new(*gap).ok_or(ListFault::Limit { place: 2 })?,
             rates: Rates::of(rates),
         })
     }

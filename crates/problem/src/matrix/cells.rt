@@ -1,47 +1,56 @@
 // Making, reading and writing coefficients.
-ghost use Rattle.std.specs.Prelude.{◌≡◌, ℕ, ◌<◌, ◌≤◌, length, replicate, ℤ, pos, unsigned_abs};
-ghost use Rattle.family.specs.Numbers.{Small};
+ghost use Rattle.std.specs.Prelude.{◌≡◌, ℕ, ◌<◌, ◌≤◌, cond, replicate, ℤ, pos, nat_lt, unsigned_abs, MatchOption};
 ghost use Rattle.problem.specs.Tables.{cell, row_cells, with_row};
 
+use crate::coefficients::Coefficients;
 use crate::matrix::Matrix;
+use crate::sizes::{QUANTITIES, ROWS};
 
-impl Matrix {
-    // All 0.
-    pub(crate) fn zero() -> Matrix
-        ensures { result.cells ≡ replicate 128 (pos 0) }
-    {
+impl Default for Matrix {
+    ghost is_default = { λ m. m.cells ≡ replicate 128 (pos 0) };
+
+    fn default() -> Matrix {
         Matrix { cells: [0; 128] }
     }
+}
 
-    // The coefficient in this row and column.
-    pub(crate) fn cell(&self, row: usize, column: usize) -> i64
-        requires row { row < 16 }
-        requires column { column < 8 }
-        ensures value { result ≡ cell self.now.cells row column }
-        ensures small { unsigned_abs result ≤ 50 }
+impl Matrix {
+    // The eight coefficients of this row; None beyond the matrix.
+    fn row(&self, row: usize) -> Option<&[i32]>
+        ensures { MatchOption result (16 ≤ row) (λ xs. (row < 16) × (xs.now ≡ row_cells self.now.cells row)) }
     {
-        self.cells[8 * row + column] as i64
+        if row >= ROWS {
+            return None;
+        }
+        let first = 8 * row;
+        Some(&self.cells[first..first + 8])
     }
 
-    // The eight coefficients of this row.
-    pub(crate) fn row(&self, row: usize) -> [i32; 8]
-        requires { row < 16 }
-        ensures { result ≡ row_cells self.now.cells row }
+    // The coefficient in this row and column; 0 beyond the matrix.
+    pub(crate) fn cell(&self, row: usize, column: usize) -> i64
+        ensures { result ≡ cond (nat_lt column 8) (cell self.now.cells row column) (pos 0) }
     {
-        let first = 8 * row;
-        let mut coefficients = [0; 8];
-        coefficients.copy_from_slice(&self.cells[first..first + 8]);
+        let cell = self.row(row).and_then(|cells| cells.get(column));
+        cell.copied().map_or(0, i64::from)
+    }
+
+    // The eight coefficients of this row; all 0 beyond the matrix.
+    pub(crate) fn coefficients(&self, row: usize) -> [i32; 8]
+        ensures { result ≡ cond (nat_lt row 16) (row_cells self.now.cells row) (replicate 8 (pos 0)) }
+    {
+        let mut coefficients = [0; QUANTITIES];
+        if let Some(cells) = self.row(row) {
+            coefficients.copy_from_slice(cells);
+        }
         coefficients
     }
 
     // Writes the eight coefficients of one row, and leaves every other.
-    pub(crate) fn write_row(&mut self, row: usize, coefficients: &[i32])
-        requires row { row < 16 }
-        requires eight { length coefficients.now ≡ 8 }
-        requires small { Small 50 coefficients.now }
-        ensures { self.new.cells ≡ with_row self.old.cells row coefficients.now }
+    pub(crate) fn write_row(&mut self, row: usize, coefficients: &Coefficients)
+        requires { row < 16 }
+        ensures { self.new.cells ≡ with_row self.old.cells row coefficients.now.numbers }
     {
         let from = 8 * row;
-        self.cells[from..from + 8].copy_from_slice(coefficients);
+        self.cells[from..from + 8].copy_from_slice(&coefficients.numbers);
     }
 }

@@ -2,8 +2,10 @@
 ghost use Rattle.family.specs.Lists.{Read};
 ghost use Rattle.problem.specs.NewRows.{row_fault, HasRow};
 
+use crate::coefficients::Coefficients;
 use crate::kind::Kind;
 use crate::new_row::NewRow;
+use crate::row::Row;
 use family::fault::ListFault;
 use family::shape::Shape;
 
@@ -17,20 +19,18 @@ impl NewRow {
         let [kind, lo, hi, rest @ ..] = list else {
             return Err(ListFault::Length);
         };
-        let Some(kind) = Kind::from_number(*kind) else {
-            return Err(ListFault::Kind);
-        };
+        let kind = Kind::try_from(*kind)?;
         shape.judge_numbers(list)?;
         if lo > hi {
             return Err(ListFault::Ends);
         }
-        let mut coefficients = [0; 8];
-        coefficients.copy_from_slice(rest);
         Ok(NewRow {
-            kind,
-            lo: *lo,
-            hi: *hi,
-            coefficients,
+            row: Row {
+                kind,
+                lo: *lo,
+                hi: *hi,
+            },
+            coefficients: Coefficients::of(rest),
         })
     }
 }

@@ -1,32 +1,26 @@
 // How a problem grows in its draft.
 ghost use Rattle.std.specs.Prelude.{◌≡◌, ℕ, ◌<◌, ◌≤◌, true, ℤ, pos, is_err};
 ghost use Rattle.family.specs.Numbers.{at};
+ghost use Rattle.problem.specs.Tables.{row_data};
 ghost use Rattle.problem.specs.Drafts.{Grown, fresh_problem, push_answer, with_quantities, with_new_row, problem_data};
 
-use crate::kind::Kind;
 use crate::matrix::Matrix;
 use crate::new_row::NewRow;
 use crate::row::Row;
+use crate::sizes::ROWS;
 use crate::table::Problem;
 use family::fault::StateFault;
-
-const ROWS: usize = 16;
 
 impl Problem {
     // One quantity and no rows.
     pub(crate) fn fresh() -> Problem
         ensures { problem_data result ≡ fresh_problem }
     {
-        let blank = Row {
-            kind: Kind::Plain,
-            lo: 0,
-            hi: 0,
-        };
         Problem {
             n: 1,
             m: 0,
-            rows: [blank; ROWS],
-            matrix: Matrix::zero(),
+            rows: [Row::default(); ROWS],
+            matrix: Matrix::default(),
         }
     }
 
@@ -42,18 +36,17 @@ impl Problem {
 
     // Fills the next free row and leaves every other; denied where all are in use.
     pub(crate) fn push(&mut self, new: NewRow) -> Result<(), StateFault>
-        requires { (j : ℕ) → self.old.n ≤ j → at new.coefficients j ≡ pos 0 }
+        requires { (j : ℕ) → self.old.n ≤ j → at new.coefficients.numbers j ≡ pos 0 }
         ensures answer { result ≡ push_answer (problem_data self.old) }
-        ensures after { Grown result (problem_data self.old) (problem_data self.new) (with_new_row (problem_data self.old) new.kind new.lo new.hi new.coefficients) }
+        ensures after { Grown result (problem_data self.old) (problem_data self.new) (with_new_row (problem_data self.old) (row_data new.row) new.coefficients.numbers) }
         ensures denied { is_err result ≡ true → self.new ≡ self.old }
     {
         if self.m >= ROWS {
             return Err(StateFault::Full);
         }
-        let row = &mut self.rows[self.m];
-        row.kind = new.kind;
-        row.lo = new.lo;
-        row.hi = new.hi;
+        let rows = &mut self.rows;
+        let row = &mut rows[self.m];
+        *row = new.row;
         self.matrix.write_row(self.m, &new.coefficients);
         self.m += 1;
         Ok(())

@@ -5,19 +5,11 @@ ghost use Rattle.problem.specs.Listings.{coefficients_of};
 
 use crate::table::Problem;
 
-const COLUMNS: usize = 8;
-
-const ROWS: usize = 16;
-
 impl Problem {
     // The eight coefficients of the row with this index; all 0 beyond the matrix.
     pub(crate) fn coefficients(&self, row: usize) -> [i32; 8]
         ensures { result ≡ coefficients_of (problem_data self.now) row }
     {
-        if row < ROWS {
-            self.matrix.row(row)
-        } else {
-            [0; COLUMNS]
-        }
+        self.matrix.coefficients(row)
     }
 }

@@ -3,13 +3,8 @@ ghost use Rattle.std.specs.Prelude.{◌≡◌, ℕ, ◌≤◌, ℤ, unsigned_abs
 ghost use Rattle.problem.specs.Programs.{program};
 ghost use Rattle.problem.specs.Tables.{row_at};
 
-use crate::kind::Kind;
 use crate::row::Row;
 use crate::table::Problem;
-
-const COLUMNS: usize = 8;
-
-const ROWS: usize = 16;
 
 impl Problem {
     /// The number of quantities, n.
@@ -34,17 +29,8 @@ impl Problem {
         ensures kind { result.kind ≡ (program self.now).kind index }
         ensures lo { result.lo ≡ (program self.now).lo index }
         ensures hi { result.hi ≡ (program self.now).hi index }
-        ensures low { unsigned_abs result.lo ≤ 10000 }
-        ensures high { unsigned_abs result.hi ≤ 10000 }
     {
-        match self.rows.get(index) {
-            Some(row) => *row,
-            None => Row {
-                kind: Kind::Plain,
-                lo: 0,
-                hi: 0,
-            },
-        }
+        self.rows.get(index).copied().unwrap_or_default()
     }
 
     /// The coefficient in this row and column; 0 beyond the matrix.
@@ -52,10 +38,6 @@ impl Problem {
         ensures value { result ≡ (program self.now).coefficient row column }
         ensures small { unsigned_abs result ≤ 50 }
     {
-        if row < ROWS && column < COLUMNS {
-            self.matrix.cell(row, column)
-        } else {
-            0
-        }
+        self.matrix.cell(row, column)
     }
 }
