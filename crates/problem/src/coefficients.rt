@@ -1,7 +1,7 @@
 // Eight coefficients.
 ghost use Rattle.family.specs.Numbers.{Small};
 
-use crate::sizes::QUANTITIES;
+use family::sizes::QUANTITIES;
 
 mod reading;
 

@@ -10,5 +10,4 @@ mod matrix;
 mod new_row;
 pub mod rates;
 pub mod row;
-mod sizes;
 pub mod table;

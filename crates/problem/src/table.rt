@@ -4,7 +4,7 @@ ghost use Rattle.family.specs.Numbers.{at};
 
 use crate::matrix::Matrix;
 use crate::row::Row;
-use crate::sizes::ROWS;
+use family::sizes::ROWS;
 
 mod growing;
 mod listing;

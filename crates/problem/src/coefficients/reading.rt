@@ -3,7 +3,7 @@ ghost use Rattle.std.specs.Prelude.{◌≡◌, ℕ, ◌≤◌, length, replicate
 ghost use Rattle.family.specs.Numbers.{at, Small};
 
 use crate::coefficients::Coefficients;
-use crate::sizes::QUANTITIES;
+use family::sizes::QUANTITIES;
 
 impl Default for Coefficients {
     ghost is_default = { λ c. c.numbers ≡ replicate 8 (pos 0) };

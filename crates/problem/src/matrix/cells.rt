@@ -4,7 +4,7 @@ ghost use Rattle.problem.specs.Tables.{cell, row_cells, with_row};
 
 use crate::coefficients::Coefficients;
 use crate::matrix::Matrix;
-use crate::sizes::{QUANTITIES, ROWS};
+use family::sizes::{QUANTITIES, ROWS};
 
 impl Default for Matrix {
     ghost is_default = { λ m. m.cells ≡ replicate 128 (pos 0) };

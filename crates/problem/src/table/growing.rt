@@ -7,9 +7,9 @@ ghost use Rattle.problem.specs.Drafts.{Grown, fresh_problem, push_answer, with_q
 use crate::matrix::Matrix;
 use crate::new_row::NewRow;
 use crate::row::Row;
-use crate::sizes::ROWS;
 use crate::table::Problem;
 use family::fault::StateFault;
+use family::sizes::ROWS;
 
 impl Problem {
     // One quantity and no rows.
