@@ -1,5 +1,5 @@
 -- The first of a record's words that is not in use and not 0.
-use Rattle.std.proofs.Common.{◌≡◌, ℕ, zero, suc, ◌+◌, ◌-◌, ◌*◌, ◌<◌, ◌≤◌, true, false, cond, ℤ, Some, None, Ok, Err, Option, MatchOption, ap, ◌∙◌, arith}
+use Rattle.std.proofs.Common.{◌≡◌, ℕ, zero, suc, ◌+◌, ◌-◌, ◌<◌, ◌≤◌, true, false, cond, ℤ, Some, None, Ok, Err, Option, MatchOption, ap, ◌∙◌, arith}
 use Rattle.file.specs.declared.fault.FileFault.TheVariants.{Unused}
 use Rattle.file.specs.Records.{is, cell, unused_from, unused}
 

@@ -1,5 +1,5 @@
 -- What walking a chain leaves.
-use Rattle.std.specs.Prelude.{◌≡◌, ℕ, ◌-◌, ◌<◌, false, List, length, take, ℤ, Some, None, Ok, Err, Option, Result, MatchResult}
+use Rattle.std.specs.Prelude.{◌≡◌, ℕ, ◌-◌, ◌<◌, false, List, length, ℤ, Some, None, Ok, Err, Option, Result, MatchResult}
 use Rattle.file.specs.declared.fault.FileFault.{FileFault}
 use Rattle.file.specs.declared.reached.Reached.{Reached}
 use Rattle.file.specs.declared.records.Records.{Records}

@@ -3,6 +3,12 @@ ghost use Rattle.std.specs.Prelude.{◌≡◌, ℕ, ◌*◌, ◌<◌, ◌≤◌,
 
 mod reading;
 
+/// As many words as a record has.
+pub(crate) const WORDS: usize = 20;
+
+/// As many bytes as a record has.
+pub(crate) const BYTES: usize = 80;
+
 /// The bytes of a file: from 1 to 819 records of twenty words each.
 #[derive(Clone, Copy)]
 pub(crate) struct Records<'a> {

@@ -50,7 +50,7 @@ impl<C: Cost> Grows for Draft<C> {
     ghost added = { row_added };
 
     fn add(&mut self, records: &Records, r: usize) -> Result<(), FileFault> {
-        if Kind::from_number(records.word(r, 1)).is_none() {
+        if Kind::try_from(records.word(r, 1)).is_err() {
             return Err(FileFault::Kind { at: r });
         }
         let list: [i32; 11] = records.list(r, 1)?;

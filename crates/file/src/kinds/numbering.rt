@@ -1,6 +1,7 @@
 // From numbers to kinds, and back for what is written.
 ghost use Rattle.std.specs.Prelude.{◌≡◌, pos};
-ghost use Rattle.file.specs.Kinds.{Numbered, family_number, call_number};
+ghost use Rattle.family.specs.Numbers.{Numbered};
+ghost use Rattle.file.specs.Kinds.{family_number, call_number};
 
 use crate::kinds::{CallKind, FamilyKind, Unknown};
 

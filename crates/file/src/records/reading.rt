@@ -9,12 +9,8 @@ ghost use Rattle.file.specs.Words.{span};
 use crate::call::LARGEST;
 use crate::fault::FileFault;
 use crate::reached::Reached;
-use crate::records::Records;
+use crate::records::{BYTES, Records, WORDS};
 use crate::words;
-
-const BYTES: usize = 80;
-
-const WORDS: usize = 20;
 
 impl<'a> Records<'a> {
     // The records of a file, or that its length is wrong.

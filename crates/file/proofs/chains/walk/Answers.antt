@@ -1,4 +1,4 @@
-use Rattle.std.proofs.Common.{◌≤◌, length, Ok, sym, ap, ◌∙◌, refl, arith, rules}
+use Rattle.std.proofs.Common.{Ok, sym, ap, ◌∙◌, refl, arith}
 use Rattle.file.specs.Walks.{reached_in, words_in}
 use Rattle.file.proofs.Turns.{chained_end, chained_fault, there, turn, turn_fault, longer, both_longer, stopped}
 use Rattle.file.proofs.chains.walk.Goals as goal

@@ -1,6 +1,7 @@
-use Rattle.std.proofs.Common.{◌≡◌, ℕ, true, false, pos, List, length, Ok, sym, ap, ◌∙◌}
+use Rattle.std.proofs.Common.{◌≡◌, ℕ, pos, List, length, Ok, sym, ap, ◌∙◌}
 use Rattle.file.specs.declared.kinds.FamilyKind.TheVariants.{Squares, Linear}
 use Rattle.file.specs.Files.{counted, reading}
+use Rattle.file.specs.Kinds.{family_number}
 use Rattle.file.specs.Records.{is}
 use Rattle.file.specs.Words.{word}
 use Rattle.file.proofs.Bytes.{read_back}
@@ -33,7 +34,7 @@ returns-in_err-check_link-2 c =
 pub returns-in_err-draft-in-Ok-Squares : goal.returns-in_err-draft-in-Ok-Squares
 returns-in_err-draft-in-Ok-Squares c =
     let h = c.in_ok-records.ensures in
-    let one : pos 1 ≡ word c.in_ok-records.records.bytes.now 2 = c.in-Ok-Squares.ensures ∙ read_back c.word.ensures c.word.type_inv in
+    let one : pos 1 ≡ word c.in_ok-records.records.bytes.now 2 = ap (λ kind. pos (family_number kind)) (sym c.in-Ok-Squares.field-0-is) ∙ c.in-Ok-Squares.ensures ∙ read_back c.word.ensures c.word.type_inv in
     mapped_stopped _ c.from_residual-in_err-draft-in-Ok-Squares.result c.in_err-draft-in-Ok-Squares.field-0.0
     (ap reading (sym h.0) ∙ read_squares _ _ (whole h) c.in_ok-check_link.ensures c.in_ok-check_link-2.ensures (λ i. is 1 (sym one i)) c.in_err-draft-in-Ok-Squares.ensures)
     c.from_residual-in_err-draft-in-Ok-Squares.ensures.1
@@ -41,7 +42,7 @@ returns-in_err-draft-in-Ok-Squares c =
 pub returns-in_err-draft-in-Ok-Linear : goal.returns-in_err-draft-in-Ok-Linear
 returns-in_err-draft-in-Ok-Linear c =
     let h = c.in_ok-records.ensures in
-    let two : pos 2 ≡ word c.in_ok-records.records.bytes.now 2 = c.in-Ok-Linear.ensures ∙ read_back c.word.ensures c.word.type_inv in
+    let two : pos 2 ≡ word c.in_ok-records.records.bytes.now 2 = ap (λ kind. pos (family_number kind)) (sym c.in-Ok-Linear.field-0-is) ∙ c.in-Ok-Linear.ensures ∙ read_back c.word.ensures c.word.type_inv in
     mapped_stopped _ c.from_residual-in_err-draft-in-Ok-Linear.result c.in_err-draft-in-Ok-Linear.field-0.0
     (ap reading (sym h.0) ∙ read_linear _ _ (whole h) c.in_ok-check_link.ensures c.in_ok-check_link-2.ensures (λ i. is 1 (sym two i)) (λ i. is 2 (sym two i)) c.in_err-draft-in-Ok-Linear.ensures)
     c.from_residual-in_err-draft-in-Ok-Linear.ensures.1
@@ -49,13 +50,13 @@ returns-in_err-draft-in-Ok-Linear c =
 pub returns-in_ok-draft-in-Ok-Squares : goal.returns-in_ok-draft-in-Ok-Squares
 returns-in_ok-draft-in-Ok-Squares c =
     let h = c.in_ok-records.ensures in
-    let one : pos 1 ≡ word c.in_ok-records.records.bytes.now 2 = c.in-Ok-Squares.ensures ∙ read_back c.word.ensures c.word.type_inv in
+    let one : pos 1 ≡ word c.in_ok-records.records.bytes.now 2 = ap (λ kind. pos (family_number kind)) (sym c.in-Ok-Squares.field-0-is) ∙ c.in-Ok-Squares.ensures ∙ read_back c.word.ensures c.word.type_inv in
     sym (ap reading (sym h.0) ∙ read_squares _ _ (whole h) c.in_ok-check_link.ensures c.in_ok-check_link-2.ensures (λ i. is 1 (sym one i)) c.in_ok-draft-in-Ok-Squares.ensures)
 
 pub returns-in_ok-draft-in-Ok-Linear : goal.returns-in_ok-draft-in-Ok-Linear
 returns-in_ok-draft-in-Ok-Linear c =
     let h = c.in_ok-records.ensures in
-    let two : pos 2 ≡ word c.in_ok-records.records.bytes.now 2 = c.in-Ok-Linear.ensures ∙ read_back c.word.ensures c.word.type_inv in
+    let two : pos 2 ≡ word c.in_ok-records.records.bytes.now 2 = ap (λ kind. pos (family_number kind)) (sym c.in-Ok-Linear.field-0-is) ∙ c.in-Ok-Linear.ensures ∙ read_back c.word.ensures c.word.type_inv in
     sym (ap reading (sym h.0) ∙ read_linear _ _ (whole h) c.in_ok-check_link.ensures c.in_ok-check_link-2.ensures (λ i. is 1 (sym two i)) (λ i. is 2 (sym two i)) c.in_ok-draft-in-Ok-Linear.ensures)
 
 pub returns-in-Err : goal.returns-in-Err

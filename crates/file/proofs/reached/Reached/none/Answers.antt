@@ -1,4 +1,4 @@
-use Rattle.std.proofs.Common.{List, ℕ, length, false, replicate, ◌+◌, ◌≡◌, get_or, sym, subst}
+use Rattle.std.proofs.Common.{length, false, replicate, ◌+◌, ◌≡◌, get_or, sym, subst}
 use Rattle.file.specs.Chains.{has, left}
 use Rattle.file.proofs.Tables.{no_flag, left_replicate}
 use Rattle.file.proofs.reached.Reached.none.Goals as goal

@@ -1,4 +1,4 @@
-use Rattle.std.proofs.Common.{◌≡◌, ◌∙◌, ◌<◌, length, false, get_or, arith, rules}
+use Rattle.std.proofs.Common.{◌∙◌, ◌<◌, length, arith, rules}
 use Rattle.file.proofs.Tables.{room, pushed}
 use Rattle.file.proofs.reached.Reached.push.Goals as goal
 
