@@ -21,7 +21,7 @@ use Rattle.file.specs.Words.{of_bytes, word, span}
 use Rattle.file.specs.Written.{link_after, head_words, row_words, Written}
 use Rattle.file.proofs.Accepted.{Sound, header_accepted, row_accepted}
 use Rattle.file.proofs.Rebuilt.{rebuilt, Upto, rebuilt_upto}
-use Rattle.file.proofs.Scans.{unused_go, unused_end}
+use Rattle.file.proofs.Scans.{unused_at}
 use Rattle.file.proofs.Tables.{has_push}
 use Rattle.file.proofs.Turns.{chained_end, turn}
 
@@ -41,9 +41,7 @@ span_is : (f : ℕ → ℤ) (k n : ℕ) (xs : List ℤ) → length xs ≡ n → 
 span_is f k n xs l h = span_take f k n xs (omega arith) h ∙ take_all n xs (omega arith)
 
 unused_all : (f : ℕ → ℤ) (r d w : ℕ) → w + d ≡ 20 → ((v : ℕ) → w ≤ v → v < 20 → cell f r v ≡ pos 0) → unused f r w ≡ Ok tt
-unused_all f r zero w s h = unused_end f r w (omega arith)
-unused_all f r (suc d) w s h =
-    unused_go f r w (omega arith) {x = pos 0} (sym (h w (omega arith) (omega arith))) (omega arith) refl ∙ unused_all f r d (w + 1) (omega arith) (λ v a b. h v (omega arith) b)
+unused_all f r d w s h = unused_at f r w None (omega arith) (λ v a b. ap (is 0) (h v a b))
 
 -- ---- the parts of a record
 row_part : (i m : ℕ) (list : List ℤ) (j : ℕ) → length list ≡ 11 → j < 11 → at (row_words i m list) (1 + j) ≡ at list j

@@ -75,6 +75,11 @@ row_came : {C : Type 0} (f : ℕ → ℤ) (r : ℕ) (d d' : Data C) (answer : Re
 row_came f r d d' (Ok tt) e after = e ∙ ap Ok (sym after)
 row_came f r d d' (Err fault) e after = e
 
+pub row_unknown : {C : Type 0} (f : ℕ → ℤ) (r : ℕ) (d : Data C) {kind : ℤ} → kind ≡ f (20 * r + 1) → (is 1 kind || is 2 kind) ≡ false → row_added f r d ≡ Err (Kind r)
+row_unknown f r d k t =
+    let e = (λ i. is 1 (sym k i) || is 2 (sym k i)) ∙ t in
+    λ i. result_and (cond (e i) (Ok tt) (Err (Kind r))) (result_and (unused f r 12) (result_and (in_record r (row_answer d (row_list f r))) (Ok (with_listed_row d (row_list f r)))))
+
 module _ {C : Type 0} (f : ℕ → ℤ) (r : ℕ) (d d' : Data C) where
   row_judged : (is 1 (cell f r 1) || is 2 (cell f r 1)) ≡ true → Ok tt ≡ unused f r 12
       → row_added f r d ≡ result_and (in_record r (row_answer d (row_list f r))) (Ok (with_listed_row d (row_list f r)))

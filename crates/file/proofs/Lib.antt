@@ -1,4 +1,5 @@
 pub mod Bytes
+pub mod Known
 pub mod Spans
 pub mod Scans
 pub mod Tables

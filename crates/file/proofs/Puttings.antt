@@ -1,7 +1,7 @@
 -- Words put one after another.
 use Rattle.std.proofs.Common.{◌≡◌, ℕ, ◌+◌, ◌-◌, ◌*◌, ◌<◌, ◌≤◌, List, [], ◌∷◌, ◌++◌, length, get_or, take, replicate, ℤ, pos, sym, refl, ap, ◌∙◌, subst, add-zero, arith}
 use native.Mathlib.Decide.{dec_lt}
-use Rattle.std.proofs.lemmas.List.{length-append, get_or_append_left, get_or-append_right, take_more, replicate_more, length-take-le, length-replicate}
+use Rattle.std.proofs.lemmas.List.{length-append, get_or_append_left, get_or-append_right, take_more, length-take-le}
 use Rattle.file.specs.Words.{word}
 use Rattle.file.specs.Written.{Put, Puts, row_words, head_words, link_after}
 
@@ -43,10 +43,6 @@ puts_same {a} {b} {k} p e = subst (Puts a b k) e p
 pub list_turn : (a b c : List ℕ) (k i : ℕ) (xs : List ℤ) {x : ℤ} → i < length xs → Puts a b k (take i xs) → Put b c (k + i) x → x ≡ get_or xs i (pos 0) → Puts a c k (take (i + 1) xs)
 list_turn a b c k i xs h p q e =
     puts_same (puts_put a b c k (k + i) (take i xs) (get_or xs i (pos 0)) (omega (arith, length-take-le i xs (omega arith))) p (put_same q e)) (sym (take_more xs i (pos 0) h))
-
-pub zeros_turn : (a b c : List ℕ) (k i : ℕ) {x : ℤ} → Puts a b k (replicate i (pos 0)) → Put b c (k + i) x → x ≡ pos 0 → Puts a c k (replicate (i + 1) (pos 0))
-zeros_turn a b c k i p q e =
-    puts_same (puts_put a b c k (k + i) (replicate i (pos 0)) (pos 0) (omega (arith, length-replicate i (pos 0))) p (put_same q e)) (replicate_more i (pos 0))
 
 pub row_puts : (a b c d : List ℕ) (i m : ℕ) (list : List ℤ) {x : ℤ} → length list ≡ 11 → Put a b (20 * i) x → x ≡ link_after i m
     → Puts b c (20 * i + 1) list → Puts c d (20 * i + 12) (replicate 8 (pos 0)) → Puts a d (20 * i) (row_words i m list)

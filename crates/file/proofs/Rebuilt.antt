@@ -6,11 +6,10 @@ use Rattle.std.proofs.lemmas.List.{length-append, get_or-set_same, get_or-set_ot
 use Rattle.family.specs.Numbers.{at}
 use Rattle.problem.specs.declared.kind.Kind.{Kind}
 use Rattle.problem.specs.declared.kind.Kind.TheVariants.{Plain, Switch}
-use Rattle.problem.specs.declared.row.Row.{Row}
 use Rattle.problem.specs.Calls.{Data, fresh_draft, with_header, with_listed_row, kind_of}
 use Rattle.problem.specs.Kinds.{kind_number}
 use Rattle.problem.specs.Listings.{rates_kept, header_list, coefficients_of, listed_row}
-use Rattle.problem.specs.Tables.{blank, row_at, cell, with_row}
+use Rattle.problem.specs.Tables.{RowData, blank, row_at, cell, with_row}
 use Rattle.problem.proofs.Cells.{row_before, row_here}
 use Rattle.file.specs.Trips.{Same}
 use Rattle.file.proofs.Accepted.{coefficient_at}
@@ -35,7 +34,7 @@ kind_same : (k : Kind) → kind_of (pos (kind_number k)) ≡ k
 kind_same Plain = refl
 kind_same Switch = refl
 
-row_same : (r : Row) → ◌≡◌ {A = Row} (record { kind = kind_of (pos (kind_number r.kind)); lo = r.lo; hi = r.hi }) r
+row_same : (r : RowData) → ◌≡◌ {A = RowData} (record { kind = kind_of (pos (kind_number r.kind)); lo = r.lo; hi = r.hi }) r
 row_same r = λ t. record { kind = kind_same r.kind t; lo = r.lo; hi = r.hi }
 
 length_with_row : (cells : List ℤ) (r : ℕ) (ys : List ℤ) → 8 * r + 8 ≤ length cells → length ys ≡ 8 → length (with_row cells r ys) ≡ length cells
@@ -55,13 +54,13 @@ header_upto cost rated d = record {
 }
 
 module _ {C : Type 0} (rated : Bool) (d x : Data C) (k : ℕ) (u : Upto rated d x k) (room : k < 16) (eight : length (coefficients_of d.problem k) ≡ 8) where
-  abbrev rows : List Row
+  abbrev rows : List RowData
   rows = x.problem.rows
 
   abbrev cells : List ℤ
   cells = x.problem.cells
 
-  abbrev new : Row
+  abbrev new : RowData
   new = record { kind = kind_of (pos (kind_number (row_at d.problem.rows k).kind)); lo = (row_at d.problem.rows k).lo; hi = (row_at d.problem.rows k).hi }
 
   abbrev ys : List ℤ

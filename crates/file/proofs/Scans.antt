@@ -1,6 +1,5 @@
 -- The first of a record's words that is not in use and not 0.
-use Rattle.std.proofs.Common.{◌≡◌, ℕ, suc, ◌+◌, ◌-◌, ◌*◌, ◌<◌, ◌≤◌, true, false, cond, ℤ, pos, negsuc, Ok, Err, sym, refl, ◌∙◌, arith, w32, of_z}
-use lib.Signed.{mag}
+use Rattle.std.proofs.Common.{◌≡◌, ℕ, zero, suc, ◌+◌, ◌-◌, ◌<◌, ◌≤◌, true, false, cond, ℤ, Some, None, Ok, Err, Option, MatchOption, ap, ◌∙◌, arith}
 use Rattle.file.specs.declared.fault.FileFault.TheVariants.{Unused}
 use Rattle.file.specs.Records.{is, cell, unused_from, unused}
 
@@ -12,18 +11,24 @@ pub unused_end : (f : ℕ → ℤ) (r w : ℕ) → 20 ≤ w → unused f r w ≡
 unfolding unused_from
 unused_end f r w h = let p : 20 - w ≡ 0 = omega arith in λ i. unused_from f r w (p i)
 
-is_0 : (z : ℤ) → mag z < 2147483648 → of_z w32 z ≡ 0 → is 0 z ≡ true
-is_0 (pos n) h t = rw t
-is_0 (negsuc n) h t = let no : ⊥ = omega arith in elim no [ ]
+-- past words that are 0
+skipped : (f : ℕ → ℤ) (r w d : ℕ) → w + d ≤ 20 → ((k : ℕ) → w ≤ k → k < w + d → is 0 (cell f r k) ≡ true) → unused f r w ≡ unused f r (w + d)
+skipped f r w zero h z = ap (unused f r) (omega arith)
+skipped f r w (suc d) h z =
+    unused_step f r w (omega arith)
+    ∙ (λ i. cond (z w (omega arith) (omega arith) i) (unused f r (w + 1)) (Err (Unused r w)))
+    ∙ skipped f r (w + 1) d (omega arith) (λ k a b. z k (omega arith) (omega arith))
+    ∙ ap (unused f r) (omega arith)
 
-is_not_0 : (z : ℤ) → (of_z w32 z ≡ 0 → ⊥) → is 0 z ≡ false
-is_not_0 (pos n) t = grind arith
-is_not_0 (negsuc n) t = refl
-
--- x is the word as a call returned it
-module _ (f : ℕ → ℤ) (r w : ℕ) (h : w < 20) where
-  pub unused_stop : {x : ℤ} → x ≡ f (20 * r + w) → (of_z w32 x ≡ 0 → ⊥) → unused f r w ≡ Err (Unused r w)
-  unused_stop {x} e t = unused_step f r w h ∙ (λ i. cond (((λ j. is 0 (sym e j)) ∙ is_not_0 x t) i) (unused f r (w + 1)) (Err (Unused r w)))
-
-  pub unused_go : {x : ℤ} → x ≡ f (20 * r + w) → mag x < 2147483648 → of_z w32 x ≡ 0 → unused f r w ≡ unused f r (w + 1)
-  unused_go {x} e m t = unused_step f r w h ∙ (λ i. cond (((λ j. is 0 (sym e j)) ∙ is_0 x m t) i) (unused f r (w + 1)) (Err (Unused r w)))
+-- where the first word that is not 0 is found, or none
+pub unused_at : (f : ℕ → ℤ) (r w : ℕ) (o : Option ℕ) → w ≤ 20
+    → MatchOption o ((k : ℕ) → w ≤ k → k < 20 → is 0 (cell f r k) ≡ true)
+    (λ i. (w ≤ i) × (i < 20) × (is 0 (cell f r i) ≡ false) × ((k : ℕ) → w ≤ k → k < i → is 0 (cell f r k) ≡ true))
+    → MatchOption o (unused f r w ≡ Ok tt) (λ i. unused f r w ≡ Err (Unused r i))
+unused_at f r w None h none =
+    skipped f r w (20 - w) (omega arith) (λ k a b. none k a (omega arith)) ∙ unused_end f r (w + (20 - w)) (omega arith)
+unused_at f r w (Some i) h (above, below, used, zeros) =
+    skipped f r w (i - w) (omega arith) (λ k a b. zeros k a (omega arith))
+    ∙ ap (unused f r) (omega arith)
+    ∙ unused_step f r i below
+    ∙ (λ j. cond (used j) (unused f r (i + 1)) (Err (Unused r i)))

@@ -1,7 +1,7 @@
 -- The table of the records reached, and the list of calls.
-use Rattle.std.proofs.Common.{◌≡◌, ℕ, zero, suc, ◌+◌, ◌<◌, ◌≤◌, Bool, true, false, cond, eqb, List, [], ◌∷◌, ◌++◌, length, get_or, take, set, replicate, sym, refl, ap, ◌∙◌, arith}
+use Rattle.std.proofs.Common.{◌≡◌, ℕ, zero, suc, ◌+◌, ◌<◌, Bool, true, false, cond, eqb, List, [], ◌∷◌, ◌++◌, length, get_or, set, replicate, sym, refl, ap, ◌∙◌, arith}
 use native.Mathlib.Decide.{ℕ_discrete}
-use Rattle.std.proofs.lemmas.List.{get_or-set_same, get_or-set_other, take_more_set, length-set, length-take-le}
+use Rattle.std.proofs.lemmas.List.{get_or-set_same, get_or-set_other, length-append}
 use Rattle.file.specs.Chains.{has, left}
 
 pub left_replicate : (n : ℕ) → left (replicate n false) ≡ n
@@ -48,7 +48,7 @@ eqb_same k = grind arith
 eqb_other : (k j : ℕ) → (k ≡ j → ⊥) → eqb k j ≡ false
 eqb_other k j ne = grind arith
 
--- the table and the list of `Reached`
+-- a flag that is not set shows that the list has room
 pub room : (count : ℕ) (seen : List Bool) (k n : ℕ) → k < n → length seen ≡ n → count + left seen ≡ n → get_or seen k false ≡ false → count < n
 room count seen k n h l r e = omega (arith, left_some seen k (omega arith) e)
 
@@ -60,26 +60,14 @@ marked seen xs k j h e =
       | no ne ↦ get_or-set_other seen k j true false (λ p. ne (sym p)) ∙ e ∙ sym (has_push xs k j ∙ rw (eqb_other k j ne))
     ]
 
--- number k is marked, and put at the end
-pub record Pushed (at at' : List ℕ) (seen : List Bool) (count k n : ℕ) : Type 0 where
-  pub marks : (j : ℕ) → get_or (set seen k true) j false ≡ has (take (count + 1) at') j
-  pub room : (count + 1) + left (set seen k true) ≡ n
-  pub small : count + 1 ≤ length at'
-  pub items : take (count + 1) at' ≡ take count at ++ (k ∷ [])
+-- number k is marked, and put at the end of the list
+pub record Pushed (xs' : List ℕ) (seen : List Bool) (k n : ℕ) : Type 0 where
+  pub marks : (j : ℕ) → get_or (set seen k true) j false ≡ has xs' j
+  pub room : length xs' + left (set seen k true) ≡ n
 
-pub pushed : (at : List ℕ) (seen : List Bool) (count k n : ℕ) → k < n → length at ≡ n → length seen ≡ n →
-    ((j : ℕ) → get_or seen j false ≡ has (take count at) j) → count + left seen ≡ n → has (take count at) k ≡ false → Pushed at (set at count k) seen count k n
-pushed at seen count k n h la ls marks full fresh =
-    let free : get_or seen k false ≡ false = marks k ∙ fresh in
-    let lt : count < n = room count seen k n h ls full free in
-    let items : take (count + 1) (set at count k) ≡ take count at ++ (k ∷ []) = take_more_set at count k (omega arith) in
-    record {
-      marks = λ j. marked seen (take count at) k j (omega arith) (marks j) ∙ (λ i. has (sym items i) j);
-      room = omega (arith, left_set seen k (omega arith) free);
-      small = simp length-set (omega arith);
-      items = items;
-    }
-
--- the room that a list's length shows
-pub short : (count n : ℕ) (at : List ℕ) → count ≤ length at → count < n → length (take count at) < n
-short count n at h l = omega (arith, length-take-le count at h)
+pub pushed : (xs : List ℕ) (seen : List Bool) (k n : ℕ) {xs' : List ℕ} → xs' ≡ xs ++ (k ∷ []) → k < length seen → get_or seen k false ≡ false
+    → ((j : ℕ) → get_or seen j false ≡ has xs j) → length xs + left seen ≡ n → Pushed xs' seen k n
+pushed xs seen k n items h free marks full = record {
+  marks = λ j. marked seen xs k j h (marks j) ∙ (λ i. has (sym items i) j);
+  room = omega (arith, left_set seen k h free, ap length items, length-append xs (k ∷ []));
+}

@@ -22,10 +22,9 @@ module _ (n : ℕ) (reached : List ℕ) (k : ℕ) {o : Option ℕ} (is : o ≡ S
   pub longer : {reached' : List ℕ} → reached' ≡ reached ++ (k ∷ []) → 819 - length reached' < 819 - length reached
   longer {reached'} items = omega (arith, there.2, ap length items, length-append reached (k ∷ []))
 
--- one call more, and one record more
-pub both_longer : (calls : List Call) (reached : List ℕ) (call : Call) (k : ℕ) {calls' : List Call} {reached' : List ℕ} → length calls ≤ length reached
-    → calls' ≡ calls ++ (call ∷ []) → reached' ≡ reached ++ (k ∷ []) → length calls' ≤ length reached'
-both_longer calls reached call k h p q = omega (arith, ap length p, ap length q, length-append calls (call ∷ []), length-append reached (k ∷ []))
+-- what takes up room grew by one at most, and there is one record more
+pub both_longer : {size size' : ℕ} (reached : List ℕ) (k : ℕ) {reached' : List ℕ} → size ≤ length reached → size' ≤ size + 1 → reached' ≡ reached ++ (k ∷ []) → size' ≤ length reached'
+both_longer reached k h g q = omega (arith, ap length q, length-append reached (k ∷ []))
 
 pub call_fault : (f : ℕ → ℤ) (r : ℕ) (calls : List Call) {d : FileFault} → Err d ≡ call_in f r → call_added f r calls ≡ Err d
 call_fault f r calls e = λ i. and_then (sym e i) (λ call. Ok (calls ++ (call ∷ [])))

@@ -1,16 +1,16 @@
 -- What a file holds, by its values.
-use Rattle.std.specs.Prelude.{List, take}
+use Rattle.std.specs.Prelude.{List}
+use Rattle.arrayvec.specs.ArrayVec.{ArrayVec}
 use Rattle.problem.specs.declared.cost.Linear.{Linear}
 use Rattle.problem.specs.declared.cost.Squares.{Squares}
 use Rattle.problem.specs.Calls.{Data, data_of}
 use Rattle.file.specs.declared.call.Call.{Call}
-use Rattle.file.specs.declared.call.Calls.{Calls}
 use Rattle.file.specs.declared.contents.AnyDraft.{AnyDraft}
 use Rattle.file.specs.declared.contents.AnyDraft.TheVariants.{Squares as of_squares, Linear as of_linear}
 use Rattle.file.specs.declared.contents.Contents.{Contents}
 
-abbrev pub calls_of : Calls → List Call
-calls_of calls = take calls.count calls.list
+abbrev pub calls_of : ArrayVec Call → List Call
+calls_of calls = calls.items
 
 -- a draft of either family, by all that it holds
 pub data AnyData : Type 0 where

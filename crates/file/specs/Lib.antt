@@ -1,6 +1,7 @@
 pub mod Words
 pub mod Refusals
 pub mod Contents
+pub mod Kinds
 pub mod Records
 pub mod Chains
 pub mod Walks

@@ -27,6 +27,10 @@ unused_from f r w (suc count) = cond (is 0 (cell f r w)) (unused_from f r (w + 1
 abbrev pub unused : (ℕ → ℤ) → ℕ → ℕ → Result (Unit {0}) FileFault
 unused f r w = unused_from f r w (20 - w)
 
+-- n numbers of record r from word w on, after which no word is in use
+abbrev pub listed : (ℕ → ℤ) → ℕ → ℕ → ℕ → Result (List ℤ) FileFault
+listed f r w n = result_and (unused f r (w + n)) (Ok (span f (20 * r + w) n))
+
 -- a fault below is kept whole, with the record
 abbrev pub in_record : {T : Type 0} → ℕ → Result T Fault → Result T FileFault
 in_record r x = result_map_both (λ v. v) (λ e. Inside (record { at = r; fault = e })) x

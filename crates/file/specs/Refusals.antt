@@ -1,5 +1,5 @@
 -- What each fault of a file tells: its number, its record, its place and its layer.
-use Rattle.std.specs.Prelude.{ℕ}
+use Rattle.std.specs.Prelude.{ℕ, List, ◌++◌, codes, decimal}
 use Rattle.family.specs.declared.fault.Layer.{Layer}
 use Rattle.family.specs.declared.fault.Layer.TheVariants.{File as in_file}
 use Rattle.family.specs.Denials.{denial_of}
@@ -20,3 +20,8 @@ refusal_of (Link at word) = told 6 at word in_file
 refusal_of (Inside inside) =
     let below = denial_of inside.fault in
     told below.number inside.at below.place below.layer
+
+-- what is printed of a file that is refused
+abbrev pub refused_text : FileFault → List ℕ
+refused_text fault =
+    codes "refused " ++ (decimal (refusal_of fault).number ++ (codes " " ++ (decimal (refusal_of fault).at ++ (codes " " ++ decimal (refusal_of fault).place))))

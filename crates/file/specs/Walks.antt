@@ -1,11 +1,21 @@
 -- What walking a chain leaves.
-use Rattle.std.specs.Prelude.{◌≡◌, ℕ, ◌-◌, ◌<◌, false, List, length, take, ℤ, Some, None, Ok, Err, Option, Result, MatchResult}
+use Rattle.std.specs.Prelude.{◌≡◌, ℕ, ◌-◌, ◌<◌, false, List, length, ℤ, Some, None, Ok, Err, Option, Result, MatchResult}
 use Rattle.file.specs.declared.fault.FileFault.{FileFault}
 use Rattle.file.specs.declared.reached.Reached.{Reached}
+use Rattle.file.specs.declared.records.Records.{Records}
 use Rattle.file.specs.Chains.{has, chained}
+use Rattle.file.specs.Files.{counted}
+use Rattle.file.specs.Words.{word}
 
 abbrev pub reached_in : Reached → List ℕ
-reached_in reached = take reached.count reached.at
+reached_in reached = reached.order.items
+
+abbrev pub words_in : Records → ℕ → ℤ
+words_in records = word records.bytes.now
+
+-- the records of these bytes, as many as their length tells
+abbrev pub Counts : List ℕ → Result Records FileFault → Type 0
+Counts bytes r = MatchResult r (λ records. (records.bytes.now ≡ bytes) × (Ok records.count ≡ counted (length bytes))) (λ e. Err e ≡ counted (length bytes))
 
 -- a record to go on to is one of the file's, is new, and finds room
 abbrev pub New : Result (Option ℕ) FileFault → ℕ → List ℕ → Type 0

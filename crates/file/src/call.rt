@@ -1,11 +1,14 @@
 // The calls that a file asks for.
-ghost use Rattle.std.specs.Prelude.{ℕ, ◌≤◌};
+use arrayvec::ArrayVec;
 
-mod listing;
+mod blank;
+
+/// As many records as a file has at most, and so as many calls.
+pub const LARGEST: usize = 819;
 
 /// The numbers of a point or a proof, or the row and the side of a split, as the file has them: they are judged when
 /// the call is made.
-#[derive(Clone, Copy)]
+#[derive(Clone, Copy, Debug, PartialEq, Eq)]
 pub enum Call {
     Point([i32; 9]),
     Proof([i32; 17]),
@@ -13,9 +16,4 @@ pub enum Call {
 }
 
 /// Calls in the order of their chain.
-#[derive(Drop)]
-pub struct Calls {
-    list: [Call; 819],
-    count: usize,
-    ghost few: { count ≤ 819 },
-}
+pub type Calls = ArrayVec<Call, LARGEST>;

@@ -4,14 +4,14 @@ use family::fault::{Fault, Layer};
 mod denying;
 
 /// A fault that a record's list, or the draft, showed, whole, and the record.
-#[derive(Clone, Copy)]
+#[derive(Clone, Copy, Debug, PartialEq, Eq)]
 pub struct InRecord {
     pub at: usize,
     pub fault: Fault,
 }
 
 /// What the reader finds in a file. Words are counted from 0.
-#[derive(Clone, Copy)]
+#[derive(Clone, Copy, Debug, PartialEq, Eq)]
 pub enum FileFault {
     /// The file is no whole number of records from 1 to 819.
     Length,
@@ -28,7 +28,7 @@ pub enum FileFault {
 }
 
 /// A refusal of a file as it is told to the outside.
-#[derive(Clone, Copy)]
+#[derive(Clone, Copy, Debug, PartialEq, Eq)]
 pub struct Refusal {
     pub number: u8,
     pub at: usize,

@@ -2,8 +2,10 @@
 #![tactic(auto)]
 
 pub mod call;
+mod chains;
 pub mod contents;
 pub mod fault;
+mod kinds;
 mod reached;
 pub mod reading;
 mod records;

@@ -7,12 +7,9 @@ pub(crate) fn get(bytes: &[u8], k: usize) -> i32
     requires { 4 * k + 4 ≤ length bytes.now }
     ensures { result ≡ word bytes.now k }
 {
-    i32::from_le_bytes([
-        bytes[4 * k],
-        bytes[4 * k + 1],
-        bytes[4 * k + 2],
-        bytes[4 * k + 3],
-    ])
+    let mut word = [0; 4];
+    word.copy_from_slice(&bytes[4 * k..4 * k + 4]);
+    i32::from_le_bytes(word)
 }
 
 // Fills the place with words from word k on.
@@ -20,7 +17,7 @@ pub(crate) fn copy(bytes: &[u8], k: usize, place: &mut [i32])
     requires { 4 * (k + length place.old) ≤ length bytes.now }
     ensures { place.new ≡ span (word bytes.now) k (length place.old) }
 {
-    for i in 0..place.len() {
-        place[i] = get(bytes, k + i);
+    for (i, number) in place.iter_mut().enumerate() {
+        *number = get(bytes, k + i);
     }
 }

@@ -1,12 +1,15 @@
 // Writing a draft as a file.
-ghost use Rattle.std.specs.Prelude.{◌≡◌, length, MatchResult, OnOk};
+ghost use Rattle.std.specs.Prelude.{◌≡◌, length, pos, MatchResult, OnOk};
 ghost use Rattle.problem.specs.Calls.{data_of};
 ghost use Rattle.problem.specs.Listings.{header_list, listed_row};
 ghost use Rattle.file.specs.Contents.{any_data};
+ghost use Rattle.file.specs.Kinds.{family_number};
 ghost use Rattle.file.specs.Trips.{RoundTrip};
 ghost use Rattle.file.specs.Written.{rows_in, write_answer, Written, WrittenAs};
 
 use crate::contents::AnyDraft;
+use crate::kinds::FamilyKind;
+use crate::records::BYTES;
 use family::fault::{Fault, ListFault};
 use problem::cost::Cost;
 use problem::draft::Draft;
@@ -14,15 +17,13 @@ use problem::draft::Draft;
 mod records;
 mod words;
 
-const RECORD: usize = 80;
-
 // Writes a draft of one cost, with its family's number.
-fn write_as<C: Cost>(draft: &Draft<C>, family: i32, place: &mut [u8]) -> Result<(), Fault>
+fn write_as<C: Cost>(draft: &Draft<C>, family: FamilyKind, place: &mut [u8]) -> Result<(), Fault>
     ensures answer { result ≡ write_answer (length place.old) (data_of draft.now).problem.m }
-    ensures written { MatchResult result (λ _. Written place.old place.new (data_of draft.now).problem.m family (header_list (C.Cost.rated draft.now.cost) (data_of draft.now)) (listed_row (data_of draft.now))) (λ _. place.new ≡ place.old) }
+    ensures written { MatchResult result (λ _. Written place.old place.new (data_of draft.now).problem.m (pos (family_number family)) (header_list (C.Cost.rated draft.now.cost) (data_of draft.now)) (listed_row (data_of draft.now))) (λ _. place.new ≡ place.old) }
 {
     let m = draft.row_count();
-    if place.len() < RECORD * (m + 1) {
+    if place.len() < BYTES * (m + 1) {
         return Err(ListFault::Length.into());
     }
     records::put_head(place, m, family, &draft.header_list());
@@ -40,7 +41,7 @@ pub fn write(draft: &AnyDraft, place: &mut [u8]) -> Result<(), Fault>
     ensures trip { OnOk result (RoundTrip (any_data draft.now) place.new) }
 {
     match draft {
-        AnyDraft::Squares(draft) => write_as(draft, 1, place),
-        AnyDraft::Linear(draft) => write_as(draft, 2, place),
+        AnyDraft::Squares(draft) => write_as(draft, FamilyKind::Squares, place),
+        AnyDraft::Linear(draft) => write_as(draft, FamilyKind::Linear, place),
     }
 }

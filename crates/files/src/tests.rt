@@ -1,5 +1,6 @@
 // How the tests write files and refusals.
-use file::fault::FileFault;
+use family::fault::Layer;
+use file::fault::{FileFault, Refusal};
 use file::reading::read;
 
 mod lengths;
@@ -8,18 +9,17 @@ mod row_records;
 mod texts;
 mod writes;
 
-// The layers, by their numbers.
-const LIST: u8 = 0;
+const LIST: Layer = Layer::List;
 
-const SEARCH: u8 = 2;
+const SEARCH: Layer = Layer::Search;
 
-const FILE: u8 = 3;
+const FILE: Layer = Layer::File;
 
 /// The words of a record.
 type Record = [i32; 20];
 
 /// The number, the record, the place and the layer of a refusal, or None where a file is accepted.
-type Answer = Option<(u8, usize, usize, u8)>;
+type Answer = Option<(u8, usize, usize, Layer)>;
 
 const ACCEPTED: Answer = None;
 
@@ -29,10 +29,8 @@ type Changes = &'static [(usize, usize, i32)];
 // The numbers, and then zeros up to N.
 fn padded<const N: usize>(numbers: &[i32]) -> [i32; N] {
     let mut list = [0; N];
-    for (index, number) in numbers.iter().enumerate() {
-        if index < N {
-            list[index] = *number;
-        }
+    for (place, number) in list.iter_mut().zip(numbers) {
+        *place = *number;
     }
     list
 }
@@ -72,19 +70,19 @@ fn byte_at(records: &[Record], index: usize) -> u8 {
 
 // Fills the place with the bytes of the records, and then zeros.
 fn put_file(records: &[Record], place: &mut [u8]) {
-    for index in 0..place.len() {
-        place[index] = byte_at(records, index);
+    for (index, byte) in place.iter_mut().enumerate() {
+        *byte = byte_at(records, index);
     }
 }
 
 fn told(fault: FileFault) -> Answer {
-    let refusal = fault.refusal();
-    Some((
-        refusal.number,
-        refusal.at,
-        refusal.place,
-        refusal.layer as u8,
-    ))
+    let Refusal {
+        number,
+        at,
+        place,
+        layer,
+    } = fault.refusal();
+    Some((number, at, place, layer))
 }
 
 fn answer_to(bytes: &[u8]) -> Answer {

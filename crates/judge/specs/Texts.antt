@@ -1,19 +1,16 @@
 -- The text that is printed of a judged file, as bytes.
-use Rattle.std.specs.Prelude.{ℕ, Bool, cond, List, [], ◌++◌, ℤ, Some, None, Ok, Err, codes, decimal, Option, Result, nat_le}
+use Rattle.std.specs.Prelude.{ℕ, cond, List, [], ◌++◌, ℤ, Some, None, Ok, Err, codes, decimal, Option, Result, nat_le}
 use Rattle.std.specs.Fmt.{signed_decimal}
 use Rattle.family.specs.declared.fault.Fault.{Fault}
 use Rattle.family.specs.declared.judgement.Judgement.TheVariants.{Void, Bound}
-use Rattle.family.specs.Denials.{denial_of}
+use Rattle.family.specs.Denials.{denial_of, denial_text}
 use Rattle.family.specs.Fractions.{Fraction}
 use Rattle.family.specs.Numbers.{at}
 use Rattle.file.specs.declared.call.Call.{Call}
 use Rattle.file.specs.declared.call.Call.TheVariants.{Point, Proof, Split}
-use Rattle.file.specs.declared.fault.FileFault.{FileFault}
-use Rattle.file.specs.Refusals.{refusal_of}
 use Rattle.search.specs.declared.outcome.Accepted.{Accepted}
 use Rattle.search.specs.declared.report.Report.{Report}
-use Rattle.search.specs.declared.report.Verdict.{Verdict}
-use Rattle.search.specs.declared.report.Verdict.TheVariants.{Stopped, Best, Nothing}
+use Rattle.search.specs.Texts.{verdict_text}
 
 abbrev pub fraction_text : Fraction → List ℕ
 fraction_text x = signed_decimal x.0 ++ (codes "/" ++ signed_decimal x.1)
@@ -24,7 +21,7 @@ outcome_text (Ok (Accepted.Kept cost)) = codes "kept " ++ fraction_text cost
 outcome_text (Ok (Accepted.Closed Void)) = codes "closed void"
 outcome_text (Ok (Accepted.Closed (Bound bound))) = codes "closed " ++ fraction_text bound
 outcome_text (Ok Accepted.Split) = codes "done"
-outcome_text (Err fault) = codes "denied " ++ (decimal (denial_of fault).number ++ (codes " " ++ decimal (denial_of fault).place))
+outcome_text (Err fault) = denial_text (denial_of fault)
 
 abbrev pub call_text : Call → List ℕ
 call_text (Point list) = codes " point "
@@ -35,27 +32,24 @@ call_text (Split row side) = codes " split "
 abbrev pub line_text : ℕ → Call → Result Accepted Fault → List ℕ
 line_text place call outcome = decimal place ++ (call_text call ++ outcome_text outcome)
 
-abbrev pub verdict_text : Verdict → List ℕ
-verdict_text Stopped = codes "stopped"
-verdict_text Best = codes "best"
-verdict_text Nothing = codes "none"
-
 abbrev pub cost_text : Option Fraction → List ℕ
 cost_text None = codes "-"
 cost_text (Some cost) = fraction_text cost
 
 -- a quantity after a space, or nothing
-abbrev pub quantity_text : Bool → ℤ → ℤ → List ℕ
-quantity_text within p q = cond within (codes " " ++ (signed_decimal p ++ (codes "/" ++ signed_decimal q))) []
+abbrev pub quantity_text : Option (ℤ × ℤ) → List ℕ
+quantity_text None = []
+quantity_text (Some x) = codes " " ++ (signed_decimal x.0 ++ (codes "/" ++ signed_decimal x.1))
 
--- the text of the quantity with number j of n, counted from 1, in the nine numbers of a point
-abbrev pub quantity_at : ℕ → List ℤ → ℕ → List ℕ
-quantity_at n numbers j = quantity_text (nat_le j n) (at numbers j) (at numbers 0)
+-- the quantity with number j of n, counted from 1, in the nine numbers of a point
+abbrev pub quantity_at : ℕ → List ℤ → ℕ → Option (ℤ × ℤ)
+quantity_at n numbers j = cond (nat_le j n) (Some (at numbers j, at numbers 0)) None
 
 abbrev pub quantities_text : ℕ → List ℤ → List ℕ
 quantities_text n numbers =
-    quantity_at n numbers 1 ++ (quantity_at n numbers 2 ++ (quantity_at n numbers 3 ++ (quantity_at n numbers 4
-    ++ (quantity_at n numbers 5 ++ (quantity_at n numbers 6 ++ (quantity_at n numbers 7 ++ quantity_at n numbers 8))))))
+    quantity_text (quantity_at n numbers 1) ++ (quantity_text (quantity_at n numbers 2) ++ (quantity_text (quantity_at n numbers 3)
+    ++ (quantity_text (quantity_at n numbers 4) ++ (quantity_text (quantity_at n numbers 5) ++ (quantity_text (quantity_at n numbers 6)
+    ++ (quantity_text (quantity_at n numbers 7) ++ quantity_text (quantity_at n numbers 8)))))))
 
 abbrev pub counts_text : Report → List ℕ
 counts_text report =
@@ -69,7 +63,3 @@ point_text (Some cost) n numbers = quantities_text n numbers
 abbrev pub last_text : ℕ → Report → List ℤ → List ℕ
 last_text n report numbers =
     verdict_text report.verdict ++ (codes " " ++ (cost_text report.cost ++ (codes " point" ++ (point_text report.cost n numbers ++ counts_text report))))
-
-abbrev pub refused_text : FileFault → List ℕ
-refused_text fault =
-    codes "refused " ++ (decimal (refusal_of fault).number ++ (codes " " ++ (decimal (refusal_of fault).at ++ (codes " " ++ decimal (refusal_of fault).place))))

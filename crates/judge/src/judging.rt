@@ -9,7 +9,7 @@ use crate::judged::Judged;
 use crate::making::offers_of;
 use family::Family;
 use family::gap::Gap;
-use file::call::Calls;
+use file::call::{Calls, LARGEST};
 use file::contents::{AnyDraft, Contents};
 use file::fault::FileFault;
 use file::reading::read;
@@ -17,8 +17,6 @@ use linear::linear_costs::LinearCosts;
 use search::outcome::Accepted;
 use search::run::run;
 use squares::least_squares::LeastSquares;
-
-const LARGEST: usize = 819;
 
 // The calls of a file as a run over a family.
 fn judge_calls<F: Family + Drop>(family: F, gap: Gap, calls: Calls) -> Judged

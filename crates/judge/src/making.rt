@@ -4,10 +4,8 @@ ghost use Rattle.file.specs.Contents.{calls_of};
 ghost use Rattle.judge.specs.Problems.{call_made, calls_made};
 ghost use Rattle.search.specs.Runs.{call_of, calls_in};
 
-use file::call::Call;
+use file::call::{Call, LARGEST};
 use search::offer::Offer;
-
-const LARGEST: usize = 819;
 
 // The offer that a call makes.
 fn offer_of<'a>(call: &'a Call) -> Offer<'a>
@@ -29,8 +27,8 @@ pub(crate) fn offers_of<'a>(calls: &'a [Call]) -> [Offer<'a>; LARGEST]
     ensures { calls_in (take (length calls.now) result) ≡ calls_made calls.now }
 {
     let mut offers = [Offer::Split { row: 0, side: 0 }; LARGEST];
-    for (index, call) in calls.iter().enumerate() {
-        offers[index] = offer_of(call);
+    for (offer, call) in offers.iter_mut().zip(calls) {
+        *offer = offer_of(call);
     }
     offers
 }

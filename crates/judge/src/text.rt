@@ -1,16 +1,28 @@
 // What is printed of a judged file.
 ghost use Rattle.std.specs.Prelude.{◌≡◌, ℕ, ◌<◌, Some};
 ghost use Rattle.judge.specs.Quantities.{quantity_of};
-ghost use Rattle.judge.specs.Texts.{outcome_text, line_text, verdict_text, cost_text, quantity_text, quantities_text, last_text, refused_text};
+ghost use Rattle.judge.specs.Texts.{fraction_text, outcome_text, line_text, cost_text, quantity_text, quantities_text, last_text};
 
 use family::fault::Fault;
 use family::judgement::Judgement;
 use file::call::Call;
-use file::fault::FileFault;
 use search::outcome::Accepted;
-use search::report::Verdict;
+use search::report::Report;
 use search::run::Ended;
 use std::fmt;
+
+// A cost or a bound.
+#[derive(Clone, Copy)]
+struct Fraction((i64, i64));
+
+impl fmt::Display for Fraction {
+    ghost output = { λ x. Some (fraction_text x.0) };
+
+    fn fmt<W: fmt::Write>(&self, f: &mut fmt::Formatter<W>) -> fmt::Result {
+        let (numerator, denominator) = self.0;
+        write!(f, "{numerator}/{denominator}")
+    }
+}
 
 /// What became of a call.
 #[derive(Clone, Copy)]
@@ -21,17 +33,12 @@ impl fmt::Display for Outcome {
 
     fn fmt<W: fmt::Write>(&self, f: &mut fmt::Formatter<W>) -> fmt::Result {
         match self.0 {
-            Ok(Accepted::Taken((a, b))) => write!(f, "taken {a}/{b}"),
-            Ok(Accepted::Kept((a, b))) => write!(f, "kept {a}/{b}"),
+            Ok(Accepted::Taken(cost)) => write!(f, "taken {}", Fraction(cost)),
+            Ok(Accepted::Kept(cost)) => write!(f, "kept {}", Fraction(cost)),
             Ok(Accepted::Closed(Judgement::Void)) => write!(f, "closed void"),
-            Ok(Accepted::Closed(Judgement::Bound((a, b)))) => write!(f, "closed {a}/{b}"),
+            Ok(Accepted::Closed(Judgement::Bound(bound))) => write!(f, "closed {}", Fraction(bound)),
             Ok(Accepted::Split) => write!(f, "done"),
-            Err(fault) => {
-                let denial = fault.denial();
-                let number = denial.number;
-                let place = denial.place;
-                write!(f, "denied {number} {place}")
-            }
+            Err(fault) => write!(f, "{}", fault.denial()),
         }
     }
 }
@@ -58,22 +65,6 @@ impl fmt::Display for Line {
     }
 }
 
-// The word for a verdict.
-#[derive(Clone, Copy)]
-struct Word(Verdict);
-
-impl fmt::Display for Word {
-    ghost output = { λ x. Some (verdict_text x.0) };
-
-    fn fmt<W: fmt::Write>(&self, f: &mut fmt::Formatter<W>) -> fmt::Result {
-        match self.0 {
-            Verdict::Stopped => write!(f, "stopped"),
-            Verdict::Best => write!(f, "best"),
-            Verdict::Nothing => write!(f, "none"),
-        }
-    }
-}
-
 // A cost, or a dash.
 #[derive(Clone, Copy)]
 struct Cost(Option<(i64, i64)>);
@@ -83,30 +74,23 @@ impl fmt::Display for Cost {
 
     fn fmt<W: fmt::Write>(&self, f: &mut fmt::Formatter<W>) -> fmt::Result {
         match self.0 {
-            Some((a, b)) => write!(f, "{a}/{b}"),
+            Some(cost) => write!(f, "{}", Fraction(cost)),
             None => write!(f, "-"),
         }
     }
 }
 
-// The quantity p_j/q with this number after a space, or nothing beyond the problem's quantities.
+// The numbers p_j and q of a quantity, printed after a space, or nothing beyond the problem's quantities.
 #[derive(Clone, Copy)]
-struct Quantity {
-    within: bool,
-    p: i32,
-    q: i32,
-}
+struct Quantity(Option<(i32, i32)>);
 
 impl fmt::Display for Quantity {
-    ghost output = { λ x. Some (quantity_text x.within x.p x.q) };
+    ghost output = { λ x. Some (quantity_text x.0) };
 
     fn fmt<W: fmt::Write>(&self, f: &mut fmt::Formatter<W>) -> fmt::Result {
-        let p = self.p;
-        let q = self.q;
-        if self.within {
-            write!(f, " {p}/{q}")
-        } else {
-            write!(f, "")
+        match self.0 {
+            Some((p, q)) => write!(f, " {p}/{q}"),
+            None => Ok(()),
         }
     }
 }
@@ -124,11 +108,7 @@ impl Quantities {
         requires { number < 9 }
         ensures { result ≡ quantity_of self.now.count self.now.point number }
     {
-        Quantity {
-            within: number <= self.count,
-            p: self.point[number],
-            q: self.point[0],
-        }
+        Quantity((number <= self.count).then_some((self.point[number], self.point[0])))
     }
 }
 
@@ -163,16 +143,18 @@ impl fmt::Display for LastLine {
     ghost output = { λ x. Some (last_text x.quantities x.end.report x.end.point) };
 
     fn fmt<W: fmt::Write>(&self, f: &mut fmt::Formatter<W>) -> fmt::Result {
-        let report = self.end.report;
-        let word = Word(report.verdict);
-        let cost = Cost(report.cost);
-        let open = report.open;
-        let splits = report.splits;
-        let closed = report.closed;
-        if report.cost.is_none() {
+        let Report {
+            verdict,
+            cost,
+            open,
+            splits,
+            closed,
+        } = self.end.report;
+        let told = Cost(cost);
+        if cost.is_none() {
             return write!(
                 f,
-                "{word} {cost} point - open {open} splits {splits} closed {closed}"
+                "{verdict} {told} point - open {open} splits {splits} closed {closed}"
             );
         }
         let quantities = Quantities {
@@ -181,23 +163,7 @@ impl fmt::Display for LastLine {
         };
         write!(
             f,
-            "{word} {cost} point{quantities} open {open} splits {splits} closed {closed}"
+            "{verdict} {told} point{quantities} open {open} splits {splits} closed {closed}"
         )
-    }
-}
-
-/// What is printed of a file that is refused.
-#[derive(Clone, Copy)]
-pub struct RefusedLine(pub FileFault);
-
-impl fmt::Display for RefusedLine {
-    ghost output = { λ x. Some (refused_text x.0) };
-
-    fn fmt<W: fmt::Write>(&self, f: &mut fmt::Formatter<W>) -> fmt::Result {
-        let refusal = self.0.refusal();
-        let number = refusal.number;
-        let at = refusal.at;
-        let place = refusal.place;
-        write!(f, "refused {number} {at} {place}")
     }
 }

@@ -1,5 +1,5 @@
 // How the tests write lists and answers.
-use family::fault::Fault;
+use family::fault::{Denial, Fault, Layer};
 use std::process::Abort;
 
 mod denials;
@@ -7,15 +7,14 @@ mod drafts;
 mod lengths;
 mod lists;
 
-// The layers, by their numbers.
-const LIST: u8 = 0;
+const LIST: Layer = Layer::List;
 
-const FAMILY: u8 = 1;
+const FAMILY: Layer = Layer::Family;
 
-const SEARCH: u8 = 2;
+const SEARCH: Layer = Layer::Search;
 
 /// The number, the place and the layer of a denial, or None where a call is taken.
-type Answer = Option<(u8, usize, u8)>;
+type Answer = Option<(u8, usize, Layer)>;
 
 const TAKEN: Answer = None;
 
@@ -24,8 +23,8 @@ type Changes = &'static [(usize, i32)];
 
 fn list_of<const N: usize>(changes: Changes) -> [i32; N] {
     let mut list = [0; N];
-    if 0 < N {
-        list[0] = 1;
+    if let Some(first) = list.first_mut() {
+        *first = 1;
     }
     for (place, number) in changes {
         if 1 <= *place && *place <= N {
@@ -35,9 +34,20 @@ fn list_of<const N: usize>(changes: Changes) -> [i32; N] {
     list
 }
 
-fn told(fault: Fault) -> Answer {
-    let denial = fault.denial();
-    Some((denial.number, denial.place, denial.layer as u8))
+fn told(fault: Fault) -> (u8, usize, Layer) {
+    let Denial {
+        number,
+        place,
+        layer,
+    } = fault.denial();
+    (number, place, layer)
+}
+
+fn answer_to<T: Drop, E: Into<Fault> + Drop>(res: Result<T, E>) -> Answer {
+    match res {
+        Ok(_) => TAKEN,
+        Err(fault) => Some(told(fault.into())),
+    }
 }
 
 fn check_answer(rt: &impl Abort, got: Answer, answer: Answer, changes: Changes) {

@@ -1,13 +1,13 @@
 // How the tests write problems, lists, outcomes and endings.
 use family::Family;
-use family::fault::{Fault, ListFault};
+use family::fault::{Denial, Fault, Layer, ListFault};
 use family::gap::Gap;
 use family::judgement::Judgement;
 use linear::linear_costs::LinearCosts;
 use problem::cost::{Cost, Linear, Squares};
 use problem::draft::Draft;
 use search::outcome::Accepted;
-use search::report::Report;
+use search::report::{Report, Verdict};
 use search::search::Search;
 use squares::least_squares::LeastSquares;
 use std::process::Abort;
@@ -18,35 +18,41 @@ mod denials;
 mod runs;
 mod sizes;
 
-// The layers, by their numbers.
-const LIST: u8 = 0;
+const LIST: Layer = Layer::List;
 
-const FAMILY: u8 = 1;
+const FAMILY: Layer = Layer::Family;
 
-const SEARCH: u8 = 2;
+const SEARCH: Layer = Layer::Search;
 
-// The verdicts, by their numbers.
-const STOPPED: u8 = 0;
+const STOPPED: Verdict = Verdict::Stopped;
 
-const BEST: u8 = 1;
+const BEST: Verdict = Verdict::Best;
 
-const NOTHING: u8 = 2;
+const NOTHING: Verdict = Verdict::Nothing;
 
 /// The number, the place and the layer of a denial.
-type Denied = (u8, usize, u8);
+type Denied = (u8, usize, Layer);
 
 /// The verdict, the cost, and the counts of open nodes, of splits and of closed nodes.
-type Ending = (u8, Option<(i64, i64)>, usize, u32, u32);
+type Ending = (Verdict, Option<(i64, i64)>, usize, u32, u32);
 
 /// What became of an offer.
-#[derive(Clone, Copy, PartialEq, Debug)]
-enum Told {
-    Taken(i64, i64),
-    Kept(i64, i64),
-    Void,
-    Bound(i64, i64),
-    Split,
-    Denied(Denied),
+type Told = Result<Accepted, Denied>;
+
+const SPLIT: Told = Ok(Accepted::Split);
+
+const VOID: Told = Ok(Accepted::Closed(Judgement::Void));
+
+fn taken(numerator: i64, denominator: i64) -> Told {
+    Ok(Accepted::Taken((numerator, denominator)))
+}
+
+fn kept(numerator: i64, denominator: i64) -> Told {
+    Ok(Accepted::Kept((numerator, denominator)))
+}
+
+fn bound(numerator: i64, denominator: i64) -> Told {
+    Ok(Accepted::Closed(Judgement::Bound((numerator, denominator))))
 }
 
 /// What stands in a place for outcomes before a run. No call of a search is answered this.
@@ -55,10 +61,8 @@ const UNTOUCHED: Result<Accepted, Fault> = Err(Fault::List(ListFault::Kind));
 // The numbers, and then zeros up to N.
 fn padded<const N: usize>(numbers: &[i32]) -> [i32; N] {
     let mut list = [0; N];
-    for (index, number) in numbers.iter().enumerate() {
-        if index < N {
-            list[index] = *number;
-        }
+    for (place, number) in list.iter_mut().zip(numbers) {
+        *place = *number;
     }
     list
 }
@@ -72,28 +76,16 @@ fn proof(numbers: &[i32]) -> [i32; 17] {
 }
 
 fn denial_of(fault: Fault) -> Denied {
-    let denial = fault.denial();
-    (denial.number, denial.place, denial.layer as u8)
+    let Denial {
+        number,
+        place,
+        layer,
+    } = fault.denial();
+    (number, place, layer)
 }
 
 fn passed<T>(res: Result<T, Fault>) -> Result<T, Denied> {
-    match res {
-        Ok(value) => Ok(value),
-        Err(fault) => Err(denial_of(fault)),
-    }
-}
-
-fn outcome_of(res: Result<Accepted, Fault>) -> Told {
-    match res {
-        Ok(Accepted::Taken((numerator, denominator))) => Told::Taken(numerator, denominator),
-        Ok(Accepted::Kept((numerator, denominator))) => Told::Kept(numerator, denominator),
-        Ok(Accepted::Closed(Judgement::Void)) => Told::Void,
-        Ok(Accepted::Closed(Judgement::Bound((numerator, denominator)))) => {
-            Told::Bound(numerator, denominator)
-        }
-        Ok(Accepted::Split) => Told::Split,
-        Err(fault) => Told::Denied(denial_of(fault)),
-    }
+    res.map_err(denial_of)
 }
 
 fn drafted<C: Cost + Drop>(cost: C, header: &[i32], rows: &[[i32; 11]]) -> Result<Draft<C>, Fault> {
@@ -137,7 +129,7 @@ fn linear_sample() -> Result<(LinearCosts, Gap), Denied> {
 }
 
 fn check_told(rt: &impl Abort, res: Result<Accepted, Fault>, expected: Told) -> Result<(), Fail> {
-    assert_eq!(rt; outcome_of(res), expected);
+    assert_eq!(rt; passed(res), expected);
     Ok(())
 }
 
@@ -146,16 +138,15 @@ fn check_outcomes<const N: usize>(
     outcomes: [Result<Accepted, Fault>; N],
     expected: [Told; N],
 ) -> Result<(), Fail> {
-    for (index, outcome) in outcomes.iter().enumerate() {
-        assert!(rt; index < N);
-        assert_eq!(rt; outcome_of(*outcome), expected[index], "outcome {index}");
+    for (outcome, expected) in outcomes.iter().zip(&expected) {
+        assert_eq!(rt; passed(*outcome), *expected);
     }
     Ok(())
 }
 
 fn check_report(rt: &impl Abort, report: Report, expected: Ending) {
     let ending = (
-        report.verdict as u8,
+        report.verdict,
         report.cost,
         report.open,
         report.splits,

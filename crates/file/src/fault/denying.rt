@@ -1,10 +1,11 @@
 // The number, record, place and layer of each fault of a file.
-ghost use Rattle.std.specs.Prelude.{◌≡◌};
-ghost use Rattle.file.specs.Refusals.{refusal_of};
+ghost use Rattle.std.specs.Prelude.{◌≡◌, Some};
+ghost use Rattle.file.specs.Refusals.{refusal_of, refused_text};
 ghost use Rattle.file.specs.declared.fault.FileFault.TheVariants.{Inside};
 
 use crate::fault::{FileFault, InRecord, Refusal};
 use family::fault::Layer;
+use std::fmt;
 
 impl FileFault {
     /// What is told to the outside of this fault.
@@ -40,6 +41,20 @@ impl InRecord {
             place: denial.place,
             layer: denial.layer,
         }
+    }
+}
+
+impl fmt::Display for FileFault {
+    ghost output = { λ x. Some (refused_text x) };
+
+    fn fmt<W: fmt::Write>(&self, f: &mut fmt::Formatter<W>) -> fmt::Result {
+        let Refusal {
+            number,
+            at,
+            place,
+            ..
+        } = self.refusal();
+        write!(f, "refused {number} {at} {place}")
     }
 }
 

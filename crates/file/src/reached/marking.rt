@@ -4,6 +4,7 @@ ghost use Rattle.file.specs.Chains.{has};
 ghost use Rattle.file.specs.Walks.{reached_in};
 
 use crate::reached::Reached;
+use arrayvec::ArrayVec;
 
 impl Reached {
     // No record.
@@ -11,9 +12,8 @@ impl Reached {
         ensures { reached_in result ≡ [] }
     {
         Reached {
-            at: [0; 819],
+            order: ArrayVec::new(),
             seen: [false; 819],
-            count: 0,
         }
     }
 
@@ -32,8 +32,7 @@ impl Reached {
         requires fresh { has (reached_in self.old) k ≡ false }
         ensures { reached_in self.new ≡ reached_in self.old ++ (k ∷ []) }
     {
-        self.at[self.count] = k;
+        self.order.push(k);
         self.seen[k] = true;
-        self.count += 1;
     }
 }

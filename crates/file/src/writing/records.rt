@@ -1,10 +1,11 @@
 // Records that are put into a place.
-ghost use Rattle.std.specs.Prelude.{◌≡◌, ◌+◌, ◌*◌, ◌≤◌, length};
+ghost use Rattle.std.specs.Prelude.{◌≡◌, ◌+◌, ◌*◌, ◌≤◌, length, pos};
+ghost use Rattle.file.specs.Kinds.{family_number};
 ghost use Rattle.file.specs.Written.{Puts, link_after, head_words, row_words};
 
+use crate::kinds::FamilyKind;
+use crate::records::WORDS;
 use crate::writing::words;
-
-const WORDS: usize = 20;
 
 // The link in word 0 of record i, in a file of m rows.
 fn link_after(i: usize, m: usize) -> i32
@@ -15,17 +16,17 @@ fn link_after(i: usize, m: usize) -> i32
 }
 
 // Puts record 0 of a file of m rows.
-pub(crate) fn put_head(place: &mut [u8], m: usize, family: i32, header: &[i32])
+pub(crate) fn put_head(place: &mut [u8], m: usize, family: FamilyKind, header: &[i32])
     requires few { m ≤ 16 }
     requires inside { 80 ≤ length place.old }
     requires ten { length header.now ≡ 10 }
-    ensures { Puts place.old place.new 0 (head_words m family header.now) }
+    ensures { Puts place.old place.new 0 (head_words m (pos (family_number family)) header.now) }
 {
     words::put(place, 0, link_after(0, m));
     words::put(place, 1, 0);
-    words::put(place, 2, family);
+    words::put(place, 2, family.into());
     words::put_list(place, 3, header);
-    words::put_zeros(place, 13, 7);
+    words::put_list(place, 13, &[0; 7]);
 }
 
 // Puts a row into record i of a file of m rows.
@@ -38,5 +39,5 @@ pub(crate) fn put_row(place: &mut [u8], i: usize, m: usize, list: &[i32])
     let first = WORDS * i;
     words::put(place, first, link_after(i, m));
     words::put_list(place, first + 1, list);
-    words::put_zeros(place, first + 12, 8);
+    words::put_list(place, first + 12, &[0; 8]);
 }

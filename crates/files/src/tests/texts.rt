@@ -1,7 +1,6 @@
 // What is printed of a file.
 use super::{Changes, Record, changed, padded, put_file, sample};
 use judge::judging::judge;
-use judge::text::RefusedLine;
 use std::process::Abort;
 use std::test::Fail;
 
@@ -174,7 +173,7 @@ fn a_refusal_is_printed(rt: HostRuntime) -> Result<(), Fail> {
     let Err(fault) = judge(&bytes) else {
         return Err(Fail::new("the file was accepted"));
     };
-    let text = RefusedLine(fault).to_string(rt.alloc())?;
+    let text = fault.to_string(rt.alloc())?;
     assert_eq!(rt; text.as_str(), "refused 3 3 6");
     Ok(())
 }

@@ -82,10 +82,7 @@ fn a_short_place(rt: HostRuntime) -> Result<(), Fail> {
         return Err(Fail::new("the place was taken"));
     };
     let denial = fault.denial();
-    assert_eq!(rt;
-        (denial.number, denial.place, denial.layer as u8),
-        (1, 0, LIST)
-    );
+    assert_eq!(rt; (denial.number, denial.place, denial.layer), (1, 0, LIST));
     assert!(rt; short == [7; 319]);
     Ok(())
 }

@@ -1,9 +1,9 @@
 // The number, the place and the layer of every fault.
 use super::{FAMILY, LIST, SEARCH, told};
-use family::fault::{Fault, ListFault, PointFault, ProofFault, StateFault};
+use family::fault::{Fault, Layer, ListFault, PointFault, ProofFault, StateFault};
 
 /// A fault and what is told of it. A place that the fault tells is passed on; the others are the rule's.
-type Case = (Fault, (u8, usize, u8));
+type Case = (Fault, (u8, usize, Layer));
 
 static CASES: [Case; 13] = [
     (Fault::List(ListFault::Length), (1, 0, LIST)),
@@ -30,6 +30,6 @@ static CASES: [Case; 13] = [
 #[test]
 fn each_fault_is_told(rt: HostRuntime) {
     for (fault, answer) in &CASES {
-        assert_eq!(rt; told(*fault), Some(*answer));
+        assert_eq!(rt; told(*fault), *answer);
     }
 }

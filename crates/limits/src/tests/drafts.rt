@@ -1,6 +1,5 @@
 // Headers and rows at their limits, and what a draft holds after each call.
-use super::{Answer, Changes, LIST, SEARCH, TAKEN, check_answer, list_of, told};
-use family::fault::Fault;
+use super::{Answer, Changes, LIST, SEARCH, TAKEN, answer_to, check_answer, list_of};
 use problem::cost::{Cost, Linear, Squares};
 use problem::draft::Draft;
 use problem::table::Problem;
@@ -112,40 +111,28 @@ static LATE_ROWS: [Case; 6] = [
     (&[(2, 1)], Some((4, 3, LIST))),
 ];
 
-pub(super) fn answer_to(res: Result<(), Fault>) -> Answer {
-    match res {
-        Ok(()) => TAKEN,
-        Err(fault) => told(fault),
-    }
-}
-
 // Whether a row of a problem has the numbers of a list.
 fn has_row(problem: &Problem, row: usize, list: &[i32]) -> bool {
+    let [kind, lo, hi, coefficients @ ..] = list else {
+        return false;
+    };
     let kept = problem.row(row);
-    for (index, number) in list.iter().enumerate() {
-        let held = match index {
-            0 => kept.kind as i64 + 1,
-            1 => kept.lo as i64,
-            2 => kept.hi as i64,
-            _ => problem.coefficient(row, index - 3),
-        };
-        if held != *number as i64 {
+    for (column, number) in coefficients.iter().enumerate() {
+        if problem.coefficient(row, column) != i64::from(*number) {
             return false;
         }
     }
-    true
+    (i32::from(kept.kind), kept.lo, kept.hi) == (*kind, *lo, *hi)
 }
 
 // Whether a draft has the numbers of a header and these rows, and no more.
 fn holds<C: Cost + Drop>(draft: Draft<C>, header: &[i32], rows: &[[i32; 11]]) -> bool {
     let (problem, rates, gap) = draft.into_parts();
-    for (index, number) in header.iter().enumerate() {
-        let held = match index {
-            0 => problem.quantities() as i64,
-            1 => gap.value() as i64,
-            _ => rates.rate(index - 2),
-        };
-        if held != *number as i64 {
+    let [n, size, numbers @ ..] = header else {
+        return false;
+    };
+    for (index, number) in numbers.iter().enumerate() {
+        if rates.rate(index) != i64::from(*number) {
             return false;
         }
     }
@@ -154,7 +141,9 @@ fn holds<C: Cost + Drop>(draft: Draft<C>, header: &[i32], rows: &[[i32; 11]]) ->
             return false;
         }
     }
-    problem.row_count() == rows.len()
+    problem.quantities() as i64 == i64::from(*n)
+        && i64::from(gap.value()) == i64::from(*size)
+        && problem.row_count() == rows.len()
 }
 
 fn check_held(rt: &impl Abort, held: bool, changes: Changes) {

@@ -1,7 +1,7 @@
 // Lists of every length.
-use super::LIST;
-use super::drafts::answer_to;
-use super::lists::{point_answer, proof_answer};
+use super::{LIST, answer_to};
+use family::point::Point;
+use family::proof::Proof;
 use problem::cost::Squares;
 use problem::draft::Draft;
 
@@ -14,8 +14,8 @@ fn lengths(rt: HostRuntime) {
         let list = &numbers[0..length];
         let mut draft = Draft::new(Squares);
         let right = [
-            point_answer(8, list) != denied,
-            proof_answer(16, list) != denied,
+            answer_to(Point::read(8, list)) != denied,
+            answer_to(Proof::read(16, list)) != denied,
             answer_to(draft.header(list)) != denied,
             answer_to(draft.add_row(list)) != denied,
         ];

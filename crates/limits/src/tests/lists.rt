@@ -1,6 +1,5 @@
 // Points and proofs at their limits.
-use super::{Answer, Changes, LIST, TAKEN, check_answer, list_of, told};
-use family::fault::Fault;
+use super::{Answer, Changes, LIST, TAKEN, answer_to, check_answer, list_of};
 use family::point::Point;
 use family::proof::Proof;
 
@@ -59,26 +58,12 @@ static PROOFS: [Case; 19] = [
     (2, &[(6, 1), (17, 1_001)], Some((3, 6, LIST))),
 ];
 
-pub(super) fn point_answer(n: usize, list: &[i32]) -> Answer {
-    match Point::read(n, list) {
-        Ok(_) => TAKEN,
-        Err(fault) => told(Fault::List(fault)),
-    }
-}
-
-pub(super) fn proof_answer(m: usize, list: &[i32]) -> Answer {
-    match Proof::read(m, list) {
-        Ok(_) => TAKEN,
-        Err(fault) => told(Fault::List(fault)),
-    }
-}
-
 #[test]
 fn points(rt: HostRuntime) {
     for (n, changes, answer) in &POINTS {
         check_answer(
             &rt,
-            point_answer(*n, &list_of::<9>(changes)),
+            answer_to(Point::read(*n, &list_of::<9>(changes))),
             *answer,
             changes,
         );
@@ -90,7 +75,7 @@ fn proofs(rt: HostRuntime) {
     for (m, changes, answer) in &PROOFS {
         check_answer(
             &rt,
-            proof_answer(*m, &list_of::<17>(changes)),
+            answer_to(Proof::read(*m, &list_of::<17>(changes))),
             *answer,
             changes,
         );

@@ -1,7 +1,7 @@
 // Every denial that a search gives, and that a denied call leaves the search as it was.
 use super::{
-    Denied, FAMILY, LIST, NOTHING, SEARCH, STOPPED, Told, check_end, check_report, check_told,
-    denial_of, empty_sample, linear_sample, passed, point, proof, sample,
+    Denied, FAMILY, LIST, NOTHING, SEARCH, SPLIT, STOPPED, VOID, bound, check_end, check_report,
+    check_told, denial_of, empty_sample, linear_sample, passed, point, proof, sample, taken,
 };
 use family::fault::Fault;
 use search::search::Search;
@@ -67,7 +67,7 @@ fn points(rt: HostRuntime) -> Result<(), Fail> {
 fn proofs(rt: HostRuntime) -> Result<(), Fail> {
     let (family, gap) = sample(4)?;
     let mut search = Search::open(family, gap);
-    check_told(&rt, search.point(&point(&[1, 3, 0])), Told::Taken(9, 1))?;
+    check_told(&rt, search.point(&point(&[1, 3, 0])), taken(9, 1))?;
     check_denied(&rt, search.proof(&[2, 0, 0, -3]), (1, 0, LIST))?;
     for (numbers, expected) in &PROOFS {
         check_denied(&rt, search.proof(&proof(numbers)), *expected)?;
@@ -80,10 +80,10 @@ fn proofs(rt: HostRuntime) -> Result<(), Fail> {
 fn a_bound_within_the_gap_closes(rt: HostRuntime) -> Result<(), Fail> {
     let (family, gap) = sample(5)?;
     let mut search = Search::open(family, gap);
-    let bound = proof(&[2, 0, 0, -3]);
-    check_denied(&rt, search.proof(&bound), (14, 0, SEARCH))?;
-    check_told(&rt, search.point(&point(&[1, 3, 0])), Told::Taken(9, 1))?;
-    check_told(&rt, search.proof(&bound), Told::Bound(18, 4))
+    let list = proof(&[2, 0, 0, -3]);
+    check_denied(&rt, search.proof(&list), (14, 0, SEARCH))?;
+    check_told(&rt, search.point(&point(&[1, 3, 0])), taken(9, 1))?;
+    check_told(&rt, search.proof(&list), bound(18, 4))
 }
 
 #[test]
@@ -98,7 +98,7 @@ fn a_column_off_balance(rt: HostRuntime) -> Result<(), Fail> {
 fn splits(rt: HostRuntime) -> Result<(), Fail> {
     let (family, gap) = sample(0)?;
     let mut search = Search::open(family, gap);
-    check_told(&rt, search.split(1, 0), Told::Split)?;
+    check_told(&rt, search.split(1, 0), SPLIT)?;
     for (row, side, expected) in &SPLITS {
         check_denied(&rt, search.split(*row, *side), *expected)?;
     }
@@ -111,7 +111,7 @@ fn no_node_is_open(rt: HostRuntime) -> Result<(), Fail> {
     let mut search = Search::open(family, gap);
     let void = proof(&[1, 1, 1, -1]);
     check_denied(&rt, search.advise(&[2, 3, 3]), (1, 0, LIST))?;
-    check_told(&rt, search.proof(&void), Told::Void)?;
+    check_told(&rt, search.proof(&void), VOID)?;
     check_denied(&rt, search.proof(&void), (12, 0, SEARCH))?;
     check_denied(&rt, search.split(1, 0), (12, 0, SEARCH))?;
     check_denied(&rt, search.advise(&point(&[2, 3, 3])), (12, 0, SEARCH))?;

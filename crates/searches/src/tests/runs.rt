@@ -1,7 +1,7 @@
 // Whole searches at once.
 use super::{
-    BEST, LIST, NOTHING, STOPPED, Told, UNTOUCHED, check_outcomes, check_report, denial_of,
-    empty_sample, linear_sample, passed, point, proof, sample,
+    BEST, LIST, NOTHING, SPLIT, STOPPED, UNTOUCHED, VOID, bound, check_outcomes, check_report,
+    denial_of, empty_sample, linear_sample, passed, point, proof, sample, taken,
 };
 use family::fault::Fault;
 use search::offer::Offer;
@@ -31,10 +31,10 @@ fn the_sample_is_settled(rt: HostRuntime) -> Result<(), Fail> {
     let mut outcomes = [UNTOUCHED; 4];
     let ended = passed(run(family, gap, &offers, &mut outcomes))?;
     let expected = [
-        Told::Taken(9, 1),
-        Told::Split,
-        Told::Bound(9, 1),
-        Told::Bound(9, 1),
+        taken(9, 1),
+        SPLIT,
+        bound(9, 1),
+        bound(9, 1),
     ];
     check_outcomes(&rt, outcomes, expected)?;
     check_report(&rt, ended.report, (BEST, Some((9, 1)), 0, 1, 2));
@@ -53,10 +53,10 @@ fn the_linear_sample_is_settled(rt: HostRuntime) -> Result<(), Fail> {
     let mut outcomes = [UNTOUCHED; 4];
     let ended = passed(run(family, gap, &offers, &mut outcomes))?;
     let expected = [
-        Told::Taken(4, 1),
-        Told::Split,
-        Told::Bound(6, 1),
-        Told::Bound(4, 1),
+        taken(4, 1),
+        SPLIT,
+        bound(6, 1),
+        bound(4, 1),
     ];
     check_outcomes(&rt, outcomes, expected)?;
     check_report(&rt, ended.report, (BEST, Some((4, 1)), 0, 1, 2));
@@ -71,7 +71,7 @@ fn no_point_is_admitted(rt: HostRuntime) -> Result<(), Fail> {
     let void = proof(&[1, 1, 1, -1]);
     let mut outcomes = [UNTOUCHED; 1];
     let ended = passed(run(family, gap, &[Offer::Proof(&void)], &mut outcomes))?;
-    check_outcomes(&rt, outcomes, [Told::Void])?;
+    check_outcomes(&rt, outcomes, [VOID])?;
     check_report(&rt, ended.report, (NOTHING, None, 0, 0, 1));
     assert_eq!(rt; ended.point, [0; 9]);
     Ok(())
@@ -84,7 +84,7 @@ fn a_run_is_stopped(rt: HostRuntime) -> Result<(), Fail> {
     let offers = [Offer::Point(&found), Offer::Split { row: 1, side: 0 }];
     let mut outcomes = [UNTOUCHED; 2];
     let ended = passed(run(family, gap, &offers, &mut outcomes))?;
-    check_outcomes(&rt, outcomes, [Told::Taken(9, 1), Told::Split])?;
+    check_outcomes(&rt, outcomes, [taken(9, 1), SPLIT])?;
     check_report(&rt, ended.report, (STOPPED, Some((9, 1)), 2, 1, 0));
     assert_eq!(rt; ended.point, [1, 3, 0, 0, 0, 0, 0, 0, 0]);
     Ok(())
@@ -109,8 +109,8 @@ fn check_refused(rt: &impl Abort, place: &mut [Result<Accepted, Fault>]) -> Resu
 fn a_place_of_another_length(rt: HostRuntime) -> Result<(), Fail> {
     let mut long = [UNTOUCHED; 3];
     check_refused(&rt, &mut long)?;
-    check_outcomes(&rt, long, [Told::Denied((5, 1, LIST)); 3])?;
+    check_outcomes(&rt, long, [Err((5, 1, LIST)); 3])?;
     let mut short = [UNTOUCHED; 1];
     check_refused(&rt, &mut short)?;
-    check_outcomes(&rt, short, [Told::Denied((5, 1, LIST)); 1])
+    check_outcomes(&rt, short, [Err((5, 1, LIST)); 1])
 }

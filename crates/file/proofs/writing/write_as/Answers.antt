@@ -1,5 +1,4 @@
-use Rattle.std.proofs.Common.{◌≡◌, length, w32, rules}
-use Rattle.std.proofs.lemmas.Int.{to_z-of_z}
+use Rattle.std.proofs.Common.{◌≡◌, length, refl, rules}
 use Rattle.problem.specs.Calls.{data_of}
 use Rattle.problem.specs.Listings.{listed_row}
 use Rattle.file.proofs.Placings.{rows_none, rows_turn, rows_written, long_enough}
@@ -18,6 +17,6 @@ returns g c =
     let ten : length c.header_list.result ≡ 10 = search rules in
     record {
       answer = long_enough (length c.args.place.now) c.row_count-m.ensures.value c.if-place-m.false;
-      written = rows_written _ _ _ c.loop-i.i (listed_row (data_of c.args.draft.now)) c.row_count-m.ensures.value (to_z-of_z w32 c.args.family c.ranges.family) c.header_list.ensures
+      written = rows_written _ _ _ c.loop-i.i (listed_row (data_of c.args.draft.now)) c.row_count-m.ensures.value refl c.header_list.ensures
           c.loop-i-test.false c.loop-i.auto.i-end ten c.put_head.ensures c.loop-i.invariant;
     }

@@ -1,11 +1,6 @@
-use Rattle.std.proofs.Common.{rules}
-use Rattle.file.proofs.Tables.{room, short}
+use Rattle.std.proofs.Common.{length, rules}
+use Rattle.file.proofs.Tables.{room}
 use Rattle.file.proofs.reached.Reached.contains.Goals as goal
 
-pub returns : goal.returns
-returns c =
-    let self = c.args.self.now in
-    record {
-      value = self.marks c.args.k;
-      room = λ e. short self.count 819 self.at self.small (room self.count self.seen c.args.k 819 c.requires (search rules) self.room e);
-    }
+pub returns-clause-room : goal.returns-clause-room
+returns-clause-room c = λ e. room (length c.args.self.now.order.items) c.args.self.now.seen c.args.k 819 c.requires (search rules) c.args.self.now.room e

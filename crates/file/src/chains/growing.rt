@@ -1,0 +1,74 @@
+// A draft grows by rows, and a list of calls by calls.
+ghost use Rattle.std.specs.Prelude.{◌≡◌, ℕ, ◌<◌, length, List};
+ghost use Rattle.problem.specs.Calls.{Data, data_of};
+ghost use Rattle.file.specs.declared.call.Call.{Call as ACall};
+ghost use Rattle.file.specs.Contents.{calls_of};
+ghost use Rattle.file.specs.Files.{call_added};
+ghost use Rattle.file.specs.Records.{in_record, row_added, call_in};
+ghost use Rattle.file.specs.Walks.{words_in};
+
+use crate::call::{Call, Calls};
+use crate::chains::Grows;
+use crate::fault::{FileFault, InRecord};
+use crate::kinds::CallKind;
+use crate::records::Records;
+use family::fault::Fault;
+use problem::cost::Cost;
+use problem::draft::Draft;
+use problem::kind::Kind;
+
+// A fault below is kept whole, with the record.
+pub(crate) fn in_record(r: usize, answer: Result<(), Fault>) -> Result<(), FileFault>
+    ensures { result ≡ in_record r answer }
+{
+    answer.map_err(|fault| InRecord { at: r, fault }.into())
+}
+
+// The call of record r.
+fn call(records: &Records, r: usize) -> Result<Call, FileFault>
+    requires { r < records.now.count }
+    ensures { result ≡ call_in (words_in records.now) r }
+{
+    match CallKind::try_from(records.word(r, 1)) {
+        Ok(CallKind::Point) => Ok(Call::Point(records.list(r, 2)?)),
+        Ok(CallKind::Proof) => Ok(Call::Proof(records.list(r, 2)?)),
+        Ok(CallKind::Split) => {
+            let [row, side] = records.list::<2>(r, 2)?;
+            Ok(Call::Split { row, side })
+        }
+        Err(_) => Err(FileFault::Kind { at: r }),
+    }
+}
+
+impl<C: Cost> Grows for Draft<C> {
+    ghost Held = { Data C };
+
+    ghost seen = { data_of };
+
+    ghost size = { λ _. 0 };
+
+    ghost added = { row_added };
+
+    fn add(&mut self, records: &Records, r: usize) -> Result<(), FileFault> {
+        if Kind::try_from(records.word(r, 1)).is_err() {
+            return Err(FileFault::Kind { at: r });
+        }
+        let list: [i32; 11] = records.list(r, 1)?;
+        in_record(r, self.add_row(&list))
+    }
+}
+
+impl Grows for Calls {
+    ghost Held = { List ACall };
+
+    ghost seen = { calls_of };
+
+    ghost size = { length };
+
+    ghost added = { call_added };
+
+    fn add(&mut self, records: &Records, r: usize) -> Result<(), FileFault> {
+        self.push(call(records, r)?);
+        Ok(())
+    }
+}
