@@ -1,10 +1,11 @@
 -- What the judging of offers comes to, step by step.
-use Rattle.std.proofs.Common.{◌≡◌, ℕ, ◌<◌, Bool, false, cond, List, [], ◌∷◌, length, ℤ, pos, negsuc, None, Ok, Err, Option, Result, sym, refl, ap, ◌∙◌, subst, ap₂, arith}
+use Rattle.std.proofs.Common.{◌≡◌, ℕ, ◌<◌, Bool, false, cond, List, [], ◌∷◌, length, ℤ, pos, negsuc, Some, None, Ok, Err, Option, Result, sym, refl, ap, ◌∙◌, subst, ap₂, arith}
 use Rattle.std.proofs.lemmas.Bool.{ne_eqb}
 use Rattle.family.specs.declared.fault.ListFault.TheVariants.{Limit}
 use Rattle.family.specs.declared.side.Side.TheVariants.{Lower, Upper}
-use Rattle.family.specs.Numbers.{same}
+use Rattle.family.specs.Numbers.{same, Numbered}
 use Rattle.family.specs.Sides.{side_number}
+use Rattle.std.specs.Option.{ok_or}
 use Rattle.std.specs.Result.{result_and}
 use Rattle.family.specs.declared.fault.Fault.{Fault}
 use Rattle.family.specs.declared.fault.Fault.TheVariants.{List as in_list, Proof as in_proof, State as in_state}
@@ -30,10 +31,12 @@ not_same : (z : ℤ) (n : ℕ) → (pos n ≡ z → ⊥) → same z (pos n) ≡ 
 not_same (pos k) n h = ne_eqb k n (λ e. h (ap pos (sym e)))
 not_same (negsuc k) n h = refl
 
-pub side_none : (z : ℤ) → ((d : Side) → pos (side_number d) ≡ z → ⊥) → side_named z ≡ Err (in_list (Limit 2))
-side_none z h =
-    ap (λ b. cond b (Ok Lower) (cond (same z (pos 1)) (Ok Upper) (Err (in_list (Limit 2))))) (not_same z 0 (h Lower))
-    ∙ ap (λ b. cond b (Ok Upper) (Err (in_list (Limit 2)))) (not_same z 1 (h Upper))
+pub side_is : (z : ℤ) (o : Option Side) → Numbered side_number z o → ok_or o (in_list (Limit 2)) ≡ side_named z
+side_is z None h =
+    sym (ap (λ b. cond b (Ok Lower) (cond (same z (pos 1)) (Ok Upper) (Err (in_list (Limit 2))))) (not_same z 0 (h Lower))
+    ∙ ap (λ b. cond b (Ok Upper) (Err (in_list (Limit 2)))) (not_same z 1 (h Upper)))
+side_is z (Some Lower) h = ap side_named h
+side_is z (Some Upper) h = ap side_named h
 
 -- the numbers as a callee reads them
 pub fixes_at : (M : Meaning) (nodes : List Sides) (r : Result (ℕ × Side) Fault) {row row' side side' : ℤ} → row' ≡ row → side' ≡ side → r ≡ split_fixes M nodes row' side' → r ≡ split_fixes M nodes row side

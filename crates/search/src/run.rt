@@ -14,7 +14,7 @@ use family::fault::{Fault, ListFault};
 use family::gap::Gap;
 
 /// The report of a search that is over, and the nine numbers of the held point, all 0 if there is none.
-#[derive(Clone, Copy)]
+#[derive(Clone, Copy, PartialEq, Eq, Debug)]
 pub struct Ended {
     pub report: Report,
     pub point: [i32; 9],
