@@ -1,4 +1,4 @@
-use Rattle.std.proofs.Common.{◌≡◌, sym, ap, ◌∙◌, w32, to_z, of_z, rules}
+use Rattle.std.proofs.Common.{◌≡◌, ap, ◌∙◌, w32, to_z, of_z, rules}
 use Rattle.std.specs.Option.{ok_or}
 use Rattle.search.specs.Tally.{side_named}
 use Rattle.search.proofs.Judging.{side_is}
