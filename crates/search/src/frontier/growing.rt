@@ -17,10 +17,7 @@ impl Frontier {
         ensures { Rooted result }
     {
         Frontier {
-            stack: [Node {
-                row: SignedRow::NOWHERE,
-                depth: 0,
-            }; 17],
+            stack: [Node::ROOT; 17],
             height: 1,
             path: [SignedRow::NOWHERE; 16],
             closed: 0,

@@ -10,3 +10,11 @@ pub(crate) struct Node {
     pub(crate) depth: u8,
     ghost shallow: { depth ≤ 16 },
 }
+
+impl Node {
+    /// The node that every other node stands below.
+    pub(crate) const ROOT: Node = Node {
+        row: SignedRow::NOWHERE,
+        depth: 0,
+    };
+}
