@@ -2,14 +2,14 @@
 use Rattle.std.proofs.Common.{◌≡◌, ℕ, zero, suc, ◌+◌, ◌-◌, ◌<◌, ◌≤◌, true, ◌≢◌, List, [], ◌∷◌, length, get_or, set, take, ℤ, neg_ℤ, Some, None, sym, refl, ap, ◌∙◌, subst, ⊎_elim, arith, length-set, get_or-set_other, get_or-set_same, pow_pos}
 use native.Mathlib.Nat.{pow-succ'}
 use mathlib.Core.Path.{fun_ext}
-use Rattle.std.proofs.lemmas.List.{get_or_default, get_or-take}
+use Rattle.std.proofs.lemmas.List.{get_or-take}
 use Rattle.std.proofs.lemmas.Bool.{and_parts, and_from, leb-true, le-leb, eqb-true, eq-eqb, ne_eqb, cases_eq}
 use Rattle.family.specs.declared.side.Side.{Side}
 use Rattle.family.specs.declared.side.Side.TheVariants.{Lower, Upper}
 use Rattle.family.specs.Sides.{fixed}
 use Rattle.search.specs.declared.frontier.node.Node.{Node}
 use Rattle.search.specs.declared.frontier.signed_row.SignedRow.{SignedRow}
-use Rattle.search.specs.Nodes.{nowhere, root, signed_row, across, turned, trail, sides_at, nodes, free_rows, Sane, sane, weight}
+use Rattle.search.specs.Nodes.{root, signed_row, across, turned, trail, sides_at, nodes, free_rows, Sane, sane, weight}
 use Rattle.search.specs.Tally.{OnTop, Sides, branched, rest}
 
 fixed_same : (s : Sides) (r : ℕ) (d : Side) → fixed s r d r ≡ Some d
@@ -111,12 +111,6 @@ turned_signed s r Upper = refl
 pub other_side : (z : ℤ) (r : ℕ) (d : Side) → z ≡ signed_row r d → neg_ℤ z ≡ signed_row r (across d)
 other_side z r Lower e = rw e
 other_side z r Upper e = rw e
-
--- one more signed row of the path
-pub trail_more : (path : List SignedRow) (n : ℕ) (row : SignedRow) (s t : Sides) → n < length path → row ≡ get_or path n row → s ≡ trail path n → ((k : ℕ) → t k ≡ turned s row.number k) → t ≡ trail path (n + 1)
-trail_more path n row s t lt at h f =
-    let more : n + 1 ≡ suc n = omega arith in
-    rw (more, get_or_default path n nowhere row lt, ← at) (fun_ext f ∙ rw h)
 
 -- the first signed rows of a path fix what they fix alone
 pub trail_take : (path : List SignedRow) (n d : ℕ) → n ≤ d → trail (take d path) n ≡ trail path n

@@ -35,6 +35,7 @@ pub fn run<F: Family + Drop>(
         return Err(ListFault::Length.into());
     }
     let mut search = Search::open(family, gap);
+    // No zip of the two: the proof did not close, as nothing is known of what a loop writes through a zip.
     for (index, offer) in offers.iter().enumerate() {
         outcomes[index] = search.offer(*offer);
     }

@@ -1,9 +1,9 @@
-use Rattle.std.proofs.Common.{◌≡◌, suc, ◌-◌, ◌∷◌, take, sym, ap, ◌∙◌, arith, length-take-le}
+use Rattle.std.proofs.Common.{◌≡◌, suc, ◌-◌, ◌∷◌, sym, ap, ◌∙◌, arith, length-take-le}
 use Rattle.family.specs.Reading.{side_of}
 use Rattle.search.specs.Nodes.{trail, sides_at}
 use Rattle.search.specs.Tally.{rest}
 use Rattle.search.specs.View.{nodes_of}
-use Rattle.search.proofs.Stacking.{nodes_none, top_nodes, trail_more, trail_take, trail_last}
+use Rattle.search.proofs.Stacking.{nodes_none, top_nodes, trail_take, trail_last}
 use Rattle.search.proofs.frontier.Frontier.current.Goals as goal
 
 pub returns-then-self-eq0 : goal.returns-then-self-eq0
@@ -11,10 +11,6 @@ unfolding nodes_of
 returns-then-self-eq0 c =
     let f = c.args.self.now in
     nodes_none f.path f.stack f.height c.if-self-eq0.true
-
-pub loop-row-preserved : goal.loop-row-preserved
-loop-row-preserved c =
-    trail_more (take c.from.result c.args.self.now.path) c.loop-row.row-index c.row-item.result (side_of c.loop-row.sides) (side_of c.turn-sides.result) c.loop-row-test.true c.row-item.is c.loop-row.invariant c.turn-sides.ensures
 
 pub returns : goal.returns
 unfolding nodes_of
