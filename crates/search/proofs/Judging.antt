@@ -1,17 +1,17 @@
 -- What the judging of offers comes to, step by step.
-use Rattle.std.proofs.Common.{◌≡◌, ℕ, ◌<◌, Bool, false, cond, List, [], ◌∷◌, length, ℤ, pos, negsuc, None, Ok, Err, Option, Result, sym, refl, ap, ◌∙◌, subst, ap₂, arith}
+use Rattle.std.proofs.Common.{◌≡◌, ℕ, Bool, false, cond, List, [], ◌∷◌, ℤ, pos, negsuc, Some, None, Ok, Err, Option, Result, sym, refl, ap, ◌∙◌, subst, ap₂}
 use Rattle.std.proofs.lemmas.Bool.{ne_eqb}
 use Rattle.family.specs.declared.fault.ListFault.TheVariants.{Limit}
 use Rattle.family.specs.declared.side.Side.TheVariants.{Lower, Upper}
-use Rattle.family.specs.Numbers.{same}
+use Rattle.family.specs.Numbers.{same, Numbered}
 use Rattle.family.specs.Sides.{side_number}
+use Rattle.std.specs.Option.{ok_or}
 use Rattle.std.specs.Result.{result_and}
 use Rattle.family.specs.declared.fault.Fault.{Fault}
 use Rattle.family.specs.declared.fault.Fault.TheVariants.{List as in_list, Proof as in_proof, State as in_state}
 use Rattle.family.specs.declared.fault.ProofFault.{ProofFault}
 use Rattle.family.specs.declared.fault.StateFault.TheVariants.{Weak}
 use Rattle.family.specs.declared.judgement.Judgement.{Judgement}
-use Rattle.family.specs.declared.judgement.Judgement.TheVariants.{Void, Bound}
 use Rattle.family.specs.declared.point.Point.{Point}
 use Rattle.family.specs.declared.proof.Proof.{Proof}
 use Rattle.family.specs.declared.shape.Shape.TheVariants.{Point as PointShape, Proof as ProofShape}
@@ -20,20 +20,21 @@ use Rattle.family.specs.Fractions.{Fraction, Fair}
 use Rattle.family.specs.Lists.{list_fault}
 use Rattle.family.specs.Meaning.{Meaning, Laws}
 use Rattle.family.specs.Points.{HasPoint, HasProof, any_point, any_proof, point_in, proof_in}
-use Rattle.search.proofs.Steps.{May, point_fine, proof_fine, split_fine}
-use Rattle.search.specs.Shows.{FairJudgement}
-use Rattle.search.specs.Tally.{OnTop, Sides, all_free, Held, and_then, list_judged, point_judged, proof_judged, at_current, point_cost, shuts, strong, proof_shows, side_named, split_fixes}
-use Rattle.search.proofs.Offers.{offered_point, offered_proof, nine, point_is, proof_is}
+use Rattle.search.proofs.Steps.{proof_fine}
+use Rattle.search.specs.Tally.{Sides, all_free, Held, and_then, list_judged, proof_judged, at_current, shuts, strong, proof_shows, side_named, split_fixes}
+use Rattle.search.proofs.Offers.{offered_point, point_is, proof_is}
 
 -- ---- the numbers of a split
 not_same : (z : ℤ) (n : ℕ) → (pos n ≡ z → ⊥) → same z (pos n) ≡ false
 not_same (pos k) n h = ne_eqb k n (λ e. h (ap pos (sym e)))
 not_same (negsuc k) n h = refl
 
-pub side_none : (z : ℤ) → ((d : Side) → pos (side_number d) ≡ z → ⊥) → side_named z ≡ Err (in_list (Limit 2))
-side_none z h =
-    ap (λ b. cond b (Ok Lower) (cond (same z (pos 1)) (Ok Upper) (Err (in_list (Limit 2))))) (not_same z 0 (h Lower))
-    ∙ ap (λ b. cond b (Ok Upper) (Err (in_list (Limit 2)))) (not_same z 1 (h Upper))
+pub side_is : (z : ℤ) (o : Option Side) → Numbered side_number z o → ok_or o (in_list (Limit 2)) ≡ side_named z
+side_is z None h =
+    sym (ap (λ b. cond b (Ok Lower) (cond (same z (pos 1)) (Ok Upper) (Err (in_list (Limit 2))))) (not_same z 0 (h Lower))
+    ∙ ap (λ b. cond b (Ok Upper) (Err (in_list (Limit 2)))) (not_same z 1 (h Upper)))
+side_is z (Some Lower) h = ap side_named h
+side_is z (Some Upper) h = ap side_named h
 
 -- the numbers as a callee reads them
 pub fixes_at : (M : Meaning) (nodes : List Sides) (r : Result (ℕ × Side) Fault) {row row' side side' : ℤ} → row' ≡ row → side' ≡ side → r ≡ split_fixes M nodes row' side' → r ≡ split_fixes M nodes row side
@@ -48,15 +49,8 @@ module _ (M : Meaning) (laws : Laws M) where
     at_free : M.judge_point s (any_point x) ≡ M.judge_point all_free (point_in list)
     at_free = ap₂ M.judge_point (λ i k. free k i) (point_is list x read.1)
 
-    pub cost_ok : (c : Fraction) → Ok c ≡ M.judge_point s (any_point x) → Ok c ≡ point_cost M list
-    cost_ok c j = sym (ap (λ r. result_and (list_judged r) (point_judged (M.judge_point all_free (point_in list)))) fine ∙ ap point_judged (sym (j ∙ at_free)))
-
     pub cost_fair : (c : Fraction) → Ok c ≡ M.judge_point s (any_point x) → Fair c
     cost_fair c j = laws.fair_cost all_free (point_in list) c (offered_point M.n list fine) (sym (j ∙ at_free))
-
-  pub point_long : (list : List ℤ) (c : Fraction) → point_cost M list ≡ Ok c → length list ≡ 9
-  point_long list c e =
-      nine M.n list (point_fine M list c e).0
 
   -- ---- proofs
   module _ (gap m : ℕ) (is_m : m ≡ M.m) (nodes : List Sides) (held : Option Held) (list : List ℤ) (x : Proof) (s : Sides) (others : List Sides)
@@ -79,18 +73,6 @@ module _ (M : Meaning) (laws : Laws M) where
     pub shows_ok : (j : Judgement) → Ok j ≡ M.judge_proof s (any_proof x) → (b : Bool) → shuts gap held j ≡ b → cond b (Ok j) (Err (in_state Weak)) ≡ proof_shows M gap nodes held list
     shows_ok j e b is = sym (shows_is (Ok j) e ∙ ap (λ z. cond z (Ok j) (Err (in_state Weak))) is)
 
-    pub judgement_fair : (j : Judgement) → Ok j ≡ M.judge_proof s (any_proof x) → FairJudgement j
-    judgement_fair Void e = tt
-    judgement_fair (Bound b) e = laws.fair_bound s (proof_in list) b (offered_proof M.m list fine_proof) (sym (e ∙ ap (M.judge_proof s) (proof_is list x read.1)))
-
   pub proof_open : (gap : ℕ) (nodes : List Sides) (held : Option Held) (list : List ℤ) (j : Judgement) → proof_shows M gap nodes held list ≡ Ok j → (s : Sides) × (others : List Sides) × (nodes ≡ s ∷ others)
   proof_open gap [] held list j e = absurd (proof_fine M gap [] held list j e)
   proof_open gap (s ∷ ss) held list j e = (s, ss, refl)
-
-  -- ---- splits
-  room : (nodes : List Sides) (r : ℕ) → OnTop (May M r) nodes → (r < 16) × OnTop (λ s. s r ≡ None) nodes
-  room [] r h = absurd h
-  room (s ∷ ss) r h = (omega (arith, laws.fits, laws.inside r h.switch), h.free)
-
-  pub split_room : (nodes : List Sides) (row side : ℤ) (r : ℕ) (d : Side) → split_fixes M nodes row side ≡ Ok (r, d) → (r < 16) × OnTop (λ s. s r ≡ None) nodes
-  split_room nodes row side r d e = room nodes r (split_fine M 0 nodes row side (r, d) e)

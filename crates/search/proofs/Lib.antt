@@ -9,7 +9,6 @@ pub mod Closings
 pub mod Finding
 pub mod Telling
 pub mod Stacking
-pub mod Products
 pub mod Judging
 pub mod Following
 pub mod Advices

@@ -1,17 +1,15 @@
 -- The stack and the path: what a write leaves, and what a close and a split do.
-use Rattle.std.proofs.Common.{◌≡◌, ℕ, zero, suc, ◌+◌, ◌-◌, ◌<◌, ◌≤◌, true, ◌≢◌, List, [], ◌∷◌, length, get_or, set, replicate, ℤ, pos, nat_abs, Some, None, sym, refl, ap, ◌∙◌, subst, ⊎_elim, arith, length-set, get_or-set_other, get_or-set_same, pow_pos, w8, SFits}
+use Rattle.std.proofs.Common.{◌≡◌, ℕ, zero, suc, ◌+◌, ◌-◌, ◌<◌, ◌≤◌, true, ◌≢◌, List, [], ◌∷◌, length, get_or, set, take, ℤ, neg_ℤ, Some, None, sym, refl, ap, ◌∙◌, subst, ⊎_elim, arith, length-set, get_or-set_other, get_or-set_same, pow_pos}
 use native.Mathlib.Nat.{pow-succ'}
-use borrow.Author.Differences.{ints}
 use mathlib.Core.Path.{fun_ext}
-use Rattle.std.proofs.lemmas.Int.{to_z-of_z}
+use Rattle.std.proofs.lemmas.List.{get_or-take}
 use Rattle.std.proofs.lemmas.Bool.{and_parts, and_from, leb-true, le-leb, eqb-true, eq-eqb, ne_eqb, cases_eq}
 use Rattle.family.specs.declared.side.Side.{Side}
 use Rattle.family.specs.declared.side.Side.TheVariants.{Lower, Upper}
-use Rattle.family.specs.Numbers.{at, Small}
 use Rattle.family.specs.Sides.{fixed}
-use Rattle.family.proofs.Casts.{back}
 use Rattle.search.specs.declared.frontier.node.Node.{Node}
-use Rattle.search.specs.Nodes.{root, signed_row, across, turned, trail, sides_at, nodes, free_rows, Sane, sane, weight, Child}
+use Rattle.search.specs.declared.frontier.signed_row.SignedRow.{SignedRow}
+use Rattle.search.specs.Nodes.{root, signed_row, across, turned, trail, sides_at, nodes, free_rows, Sane, sane, weight}
 use Rattle.search.specs.Tally.{OnTop, Sides, branched, rest}
 
 fixed_same : (s : Sides) (r : ℕ) (d : Side) → fixed s r d r ≡ Some d
@@ -21,7 +19,7 @@ fixed_other : (s : Sides) (r : ℕ) (d : Side) (k : ℕ) → (k ≡ r → ⊥) �
 fixed_other s r d k h = rw (ne_eqb k r h)
 
 -- ---- the test and what it tests
-sane_out : (path : List ℤ) (stack : List Node) (b n : ℕ) → sane path stack b n ≡ true → Sane path stack b n
+sane_out : (path : List SignedRow) (stack : List Node) (b n : ℕ) → sane path stack b n ≡ true → Sane path stack b n
 sane_out path stack b zero e = tt
 sane_out path stack b (suc n) e =
     let x = and_parts _ _ e in
@@ -29,18 +27,18 @@ sane_out path stack b (suc n) e =
     let z = and_parts _ _ y.1 in
     (leb-true _ _ x.0, leb-true _ _ y.0, eqb-true _ _ z.0, sane_out path stack (get_or stack n root).depth n z.1)
 
-sane_in : (path : List ℤ) (stack : List Node) (b n : ℕ) → Sane path stack b n → sane path stack b n ≡ true
+sane_in : (path : List SignedRow) (stack : List Node) (b n : ℕ) → Sane path stack b n → sane path stack b n ≡ true
 sane_in path stack b zero h = refl
 sane_in path stack b (suc n) h = and_from _ _ (le-leb _ _ h.0) (and_from _ _ (le-leb _ _ h.1) (and_from _ _ (eq-eqb _ _ h.2) (sane_in path stack (get_or stack n root).depth n h.3)))
 
 -- ---- a write past what is looked at
-trail_set : (path : List ℤ) (i n : ℕ) (z : ℤ) → n ≤ i → trail (set path i z) n ≡ trail path n
+trail_set : (path : List SignedRow) (i n : ℕ) (z : SignedRow) → n ≤ i → trail (set path i z) n ≡ trail path n
 trail_set path i zero z h = refl
 trail_set path i (suc n) z h =
     let ne : n ≢ i = omega arith in
     rw (get_or-set_other, trail_set path i n z (omega arith))
 
-nodes_set : (path : List ℤ) (stack : List Node) (i n : ℕ) (v : Node) → n ≤ i → nodes path (set stack i v) n ≡ nodes path stack n
+nodes_set : (path : List SignedRow) (stack : List Node) (i n : ℕ) (v : Node) → n ≤ i → nodes path (set stack i v) n ≡ nodes path stack n
 nodes_set path stack i zero v h = refl
 nodes_set path stack i (suc n) v h =
     let ne : n ≢ i = omega arith in
@@ -52,43 +50,28 @@ weight_set stack i (suc n) v h =
     let ne : n ≢ i = omega arith in
     rw (get_or-set_other, weight_set stack i n v (omega arith))
 
-sane_set : (path : List ℤ) (stack : List Node) (i b n : ℕ) (v : Node) → n ≤ i → Sane path stack b n → Sane path (set stack i v) b n
+sane_set : (path : List SignedRow) (stack : List Node) (i b n : ℕ) (v : Node) → n ≤ i → Sane path stack b n → Sane path (set stack i v) b n
 sane_set path stack i b zero v h s = tt
 sane_set path stack i b (suc n) v h s =
     let ne : n ≢ i = omega arith in
     rw get_or-set_other (s.0, s.1, s.2, sane_set path stack i (get_or stack n root).depth n v (omega arith) s.3)
 
 -- a signed row of the path at i or past it is of no concern to nodes no deeper than i
-nodes_path : (path : List ℤ) (stack : List Node) (i b n : ℕ) (z : ℤ) → b ≤ i → Sane path stack b n → nodes (set path i z) stack n ≡ nodes path stack n
+nodes_path : (path : List SignedRow) (stack : List Node) (i b n : ℕ) (z : SignedRow) → b ≤ i → Sane path stack b n → nodes (set path i z) stack n ≡ nodes path stack n
 nodes_path path stack i b zero z h s = refl
 nodes_path path stack i b (suc n) z h s =
     let e : trail (set path i z) (get_or stack n root).depth ≡ trail path (get_or stack n root).depth = trail_set path i (get_or stack n root).depth z (omega (arith, s.1)) in
     rw (e, nodes_path path stack i (get_or stack n root).depth n z (omega (arith, s.1)) s.3)
 
-sane_path : (path : List ℤ) (stack : List Node) (i b n : ℕ) (z : ℤ) → b ≤ i → Sane path stack b n → Sane (set path i z) stack b n
+sane_path : (path : List SignedRow) (stack : List Node) (i b n : ℕ) (z : SignedRow) → b ≤ i → Sane path stack b n → Sane (set path i z) stack b n
 sane_path path stack i b zero z h s = tt
 sane_path path stack i b (suc n) z h s =
     let e : trail (set path i z) (get_or stack n root).depth ≡ trail path (get_or stack n root).depth = trail_set path i (get_or stack n root).depth z (omega (arith, s.1)) in
     rw e (s.0, s.1, s.2, sane_path path stack i (get_or stack n root).depth n z (omega (arith, s.1)) s.3)
 
-sane_more : (path : List ℤ) (stack : List Node) (b b' n : ℕ) → b ≤ b' → Sane path stack b n → Sane path stack b' n
+sane_more : (path : List SignedRow) (stack : List Node) (b b' n : ℕ) → b ≤ b' → Sane path stack b n → Sane path stack b' n
 sane_more path stack b b' zero h s = tt
 sane_more path stack b b' (suc n) h s = (s.0, omega (arith, s.1), s.2, s.3)
-
-pub small_zeros : (n : ℕ) → Small 16 (replicate n (pos 0))
-small_zeros zero k = omega arith
-small_zeros (suc n) zero = omega arith
-small_zeros (suc n) (suc k) = small_zeros n k
-
--- a write keeps every signed row of the path small
-pub small_set : (path : List ℤ) (i : ℕ) (z : ℤ) → i < length path → nat_abs z ≤ 16 → Small 16 path → Small 16 (set path i z)
-small_set path i z l h small k = ⊎_elim here there (cases_eq k i)
-  where
-    here : k ≡ i → nat_abs (at (set path i z) k) ≤ 16
-    here q = rw (q, get_or-set_same) h
-
-    there : (k ≡ i → ⊥) → nat_abs (at (set path i z) k) ≤ 16
-    there ne = rw get_or-set_other (small k)
 
 -- ---- to fix a free row leaves one free row less
 free_past : (n : ℕ) (s : Sides) (r : ℕ) (d : Side) → n ≤ r → free_rows n (fixed s r d) ≡ free_rows n s
@@ -120,43 +103,43 @@ free_some : (n : ℕ) (s : Sides) (r : ℕ) → r < n → s r ≡ None → 0 < f
 free_some n s r h e = omega (arith, free_less n s r Lower h e)
 
 -- ---- what a signed row fixes
--- a signed row as the code has it
-pub row_back : (z : ℤ) → nat_abs z ≤ 16 → back w8 z ≡ z
-row_back z h =
-    let fits : SFits w8 z = omega (arith, ints) in
-    to_z-of_z w8 z fits
-
 turned_signed : (s : Sides) (r : ℕ) (d : Side) → turned s (signed_row r d) ≡ fixed s r d
 turned_signed s r Lower = refl
 turned_signed s r Upper = refl
 
--- one more signed row of the path
-pub trail_more : (path : List ℤ) (n : ℕ) (s t : Sides) → Small 16 path → s ≡ trail path n → ((k : ℕ) → t k ≡ turned s (back w8 (at path n)) k) → t ≡ trail path (n + 1)
-trail_more path n s t small h f =
-    let more : n + 1 ≡ suc n = omega arith in
-    rw more (fun_ext f ∙ rw (row_back (at path n) (small n), h))
+-- the same at the other side
+pub other_side : (z : ℤ) (r : ℕ) (d : Side) → z ≡ signed_row r d → neg_ℤ z ≡ signed_row r (across d)
+other_side z r Lower e = rw e
+other_side z r Upper e = rw e
+
+-- the first signed rows of a path fix what they fix alone
+pub trail_take : (path : List SignedRow) (n d : ℕ) → n ≤ d → trail (take d path) n ≡ trail path n
+trail_take path zero d h = refl
+trail_take path (suc n) d h =
+    let lt : n < d = omega arith in
+    rw (get_or-take, trail_take path n d (omega arith))
 
 -- the node's own after those of the path
-pub trail_last : (path : List ℤ) (node : Node) (n : ℕ) (s t : Sides) → n ≡ node.depth → s ≡ trail path n → ((k : ℕ) → t k ≡ turned s (back w8 node.row) k) → t ≡ sides_at path node
-trail_last path node n s t e h f = fun_ext f ∙ rw (row_back node.row node.named, h, e)
+pub trail_last : (path : List SignedRow) (node : Node) (s t : Sides) → s ≡ trail path node.depth → ((k : ℕ) → t k ≡ turned s node.row.number k) → t ≡ sides_at path node
+trail_last path node s t h f = fun_ext f ∙ rw h
 
 -- ---- how many nodes are open, and the current one
-pub nodes_length : (path : List ℤ) (stack : List Node) (n : ℕ) → length (nodes path stack n) ≡ n
+pub nodes_length : (path : List SignedRow) (stack : List Node) (n : ℕ) → length (nodes path stack n) ≡ n
 nodes_length path stack zero = refl
 nodes_length path stack (suc n) = ap suc (nodes_length path stack n)
 
-pub nodes_none : (path : List ℤ) (stack : List Node) (n : ℕ) → n ≡ 0 → nodes path stack n ≡ []
+pub nodes_none : (path : List SignedRow) (stack : List Node) (n : ℕ) → n ≡ 0 → nodes path stack n ≡ []
 nodes_none path stack n e = rw e
 
-pub nodes_some : (path : List ℤ) (stack : List Node) (n : ℕ) (P : Sides → Type 0) → OnTop P (nodes path stack n) → 0 < n
+pub nodes_some : (path : List SignedRow) (stack : List Node) (n : ℕ) (P : Sides → Type 0) → OnTop P (nodes path stack n) → 0 < n
 nodes_some path stack zero P top = absurd top
 nodes_some path stack (suc n) P top = omega arith
 
-pub top_nodes : (path : List ℤ) (stack : List Node) (h k : ℕ) → h ≡ suc k → nodes path stack h ≡ sides_at path (get_or stack k root) ∷ rest (nodes path stack h)
+pub top_nodes : (path : List SignedRow) (stack : List Node) (h k : ℕ) → h ≡ suc k → nodes path stack h ≡ sides_at path (get_or stack k root) ∷ rest (nodes path stack h)
 top_nodes path stack h k e = rw e
 
 -- ---- a close: the top goes
-pub close_sane : (path : List ℤ) (stack : List Node) (h k : ℕ) → h ≡ suc k → sane path stack 16 h ≡ true → sane path stack 16 k ≡ true
+pub close_sane : (path : List SignedRow) (stack : List Node) (h k : ℕ) → h ≡ suc k → sane path stack 16 h ≡ true → sane path stack 16 k ≡ true
 close_sane path stack h k e s =
     let s' : sane path stack 16 (suc k) ≡ true = rw e at s in
     let t = sane_out path stack 16 (suc k) s' in
@@ -167,15 +150,20 @@ close_weight stack h k c e w =
     let w' : c + weight stack (suc k) ≤ 65536 = rw e at w in
     omega (arith, pow_pos (16 - (get_or stack k root).depth))
 
-pub close_nodes : (path : List ℤ) (stack : List Node) (h k : ℕ) → h ≡ suc k → nodes path stack k ≡ rest (nodes path stack h)
+pub close_nodes : (path : List SignedRow) (stack : List Node) (h k : ℕ) → h ≡ suc k → nodes path stack k ≡ rest (nodes path stack h)
 close_nodes path stack h k e = rw e
 
+-- the node at depth d that fixes the row r at a side
+pub record Child (r : ℕ) (side : Side) (d : ℕ) (node : Node) : Type 0 where
+  pub row : node.row.number ≡ signed_row r side
+  pub depth : node.depth ≡ d
+
 -- ---- a split: the top's signed row goes into the path at its depth, and two deeper nodes take its place
-module _ (path : List ℤ) (stack : List Node) (k : ℕ) (a b : Node) (r : ℕ) (d : Side) where
+module _ (path : List SignedRow) (stack : List Node) (k : ℕ) (a b : Node) (r : ℕ) (d : Side) where
   abbrev top : Node
   top = get_or stack k root
 
-  abbrev path' : List ℤ
+  abbrev path' : List SignedRow
   path' = set path top.depth top.row
 
   abbrev stack' : List Node
@@ -256,7 +244,7 @@ module _ (path : List ℤ) (stack : List Node) (k : ℕ) (a b : Node) (r : ℕ) 
       rw (at_a ch, at_b ch, ch.a_child.depth, ch.b_child.depth, e, p) (omega (arith, pow-succ' 2 (16 - (top.depth + 1))))
 
 -- the same over a frontier's fields, where the code has h - 1 and h + 1
-module _ (path : List ℤ) (stack : List Node) (h k : ℕ) (e : h ≡ suc k) (t : Node) (q : t ≡ get_or stack k root) (r : ℕ) (d : Side)
+module _ (path : List SignedRow) (stack : List Node) (h k : ℕ) (e : h ≡ suc k) (t : Node) (q : t ≡ get_or stack k root) (r : ℕ) (d : Side)
     (ok : sane path stack 16 h ≡ true) (w : r < 16) (loose : OnTop (λ s. s r ≡ None) (nodes path stack h)) where
   sane_k : Sane path stack 16 (suc k)
   sane_k = sane_out path stack 16 (suc k) (rw e at ok)
@@ -276,17 +264,16 @@ module _ (path : List ℤ) (stack : List Node) (h k : ℕ) (e : h ≡ suc k) (t 
       let rm : (get_or stack k root).depth < 16 = room path stack k root root r d sane_k w loose_k in
       (rw q rm, omega (arith, sane_k.0))
 
-  -- the named child a and the other one b, at the sides d and o, and the top's signed row as the code has it
-  module _ (a b : Node) (o : Side) (z : ℤ) (long : h < length stack) (far : t.depth < length path) (opposite : o ≡ across d) (own : z ≡ t.row)
-      (ca : Child r d (t.depth + 1) a) (cb : Child r o (t.depth + 1) b) where
+  -- the named child a and the other one b
+  module _ (a b : Node) (long : h < length stack) (far : t.depth < length path) (ca : Child r d (t.depth + 1) a) (cb : Child r (across d) (t.depth + 1) b) where
     children : Children path stack k a b r d
-    children = record { long = omega arith; far = rw q at far; a_child = rw q at ca; b_child = rw (opposite, q) at cb }
+    children = record { long = omega arith; far = rw q at far; a_child = rw q at ca; b_child = rw q at cb }
 
-    pub forked_nodes : nodes (set path t.depth z) (set (set stack k b) h a) (h + 1) ≡ branched r d (nodes path stack h)
-    forked_nodes = rw own (moved (λ n m x. nodes (set path x.depth x.row) (set (set stack k b) n a) m ≡ branched r d (nodes path stack n)) (split_nodes path stack k a b r d children sane_k))
+    pub forked_nodes : nodes (set path t.depth t.row) (set (set stack k b) h a) (h + 1) ≡ branched r d (nodes path stack h)
+    forked_nodes = moved (λ n m x. nodes (set path x.depth x.row) (set (set stack k b) n a) m ≡ branched r d (nodes path stack n)) (split_nodes path stack k a b r d children sane_k)
 
-    pub forked_sane : sane (set path t.depth z) (set (set stack k b) h a) 16 (h + 1) ≡ true
-    forked_sane = rw own (moved (λ n m x. sane (set path x.depth x.row) (set (set stack k b) n a) 16 m ≡ true) (sane_in _ _ 16 (suc (suc k)) (split_sane path stack k a b r d children sane_k w loose_k)))
+    pub forked_sane : sane (set path t.depth t.row) (set (set stack k b) h a) 16 (h + 1) ≡ true
+    forked_sane = moved (λ n m x. sane (set path x.depth x.row) (set (set stack k b) n a) 16 m ≡ true) (sane_in _ _ 16 (suc (suc k)) (split_sane path stack k a b r d children sane_k w loose_k))
 
     pub forked_weight : weight (set (set stack k b) h a) (h + 1) ≡ weight stack h
     forked_weight = moved (λ n m x. weight (set (set stack k b) n a) m ≡ weight stack n) (split_weight path stack k a b r d children (room path stack k root root r d sane_k w loose_k))

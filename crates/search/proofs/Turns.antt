@@ -55,9 +55,6 @@ module _ (M : Meaning) (gap : ℕ) (offers : List Offer) (i : ℕ) (d : Offer) (
 pub follows_at : {F : Type 0} (meaning : F → Meaning) (f f₀ : F) (g g₀ : Gap) (s s' : Inner) (c : Call) (r : Result Accepted Fault) → f ≡ f₀ → g ≡ g₀ → Follows (meaning f) (gap_value g) s c s' r → Follows (meaning f₀) (gap_value g₀) s c s' r
 follows_at meaning f f₀ g g₀ s s' c r p q h = subst (λ x. Follows (meaning f₀) (gap_value x) s c s' r) q (subst (λ x. Follows (meaning x) (gap_value g) s c s' r) p h)
 
-pub at_start : (M : Meaning) (gap : ℕ) (offers : List Offer) (s : Inner) (outcomes : List (Result Accepted Fault)) → Shows s fresh → SoFar M gap offers 0 s outcomes
-at_start M gap offers s outcomes h = record { shown = h; written = refl }
-
 pub all_done : (M : Meaning) → Laws M → (gap : ℕ) (offers : List Offer) (i : ℕ) (s : Inner) (outcomes : List (Result Accepted Fault)) (report : Report) (numbers : List ℤ)
     → i ≡ length offers → length outcomes ≡ length offers → report ≡ report_in s → numbers ≡ numbers_in s → SoFar M gap offers i s outcomes → Ran M gap (calls_in offers) report numbers outcomes
 all_done M laws gap offers i s outcomes report numbers e long p q so =

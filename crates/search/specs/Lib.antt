@@ -3,6 +3,8 @@ pub mod Claims
 pub mod Trees
 pub mod Nodes
 pub mod View
+pub mod Ratios
 pub mod Shows
+pub mod Calls
 pub mod Advising
 pub mod Runs

@@ -3,9 +3,9 @@ use Rattle.std.specs.Prelude.{◌≡◌, ℕ, zero, suc, ◌+◌, ◌-◌, ◌^�
 use Rattle.std.proofs.Common.{lit≤}
 use Rattle.family.specs.declared.side.Side.{Side}
 use Rattle.family.specs.declared.side.Side.TheVariants.{Lower, Upper}
-use Rattle.family.specs.Numbers.{at}
 use Rattle.family.specs.Sides.{fixed}
 use Rattle.search.specs.declared.frontier.node.Node.{Node}
+use Rattle.search.specs.declared.frontier.signed_row.SignedRow.{SignedRow}
 use Rattle.search.specs.Tally.{Sides, all_free, is_free}
 
 -- the signed row that fixes the row with index r at a side
@@ -24,20 +24,24 @@ turned s (pos zero) = s
 turned s (pos (suc r)) = fixed s r Upper
 turned s (negsuc r) = fixed s r Lower
 
+-- the signed row that fixes nothing
+abbrev pub nowhere : SignedRow
+nowhere = record { number = pos 0; small = lit≤ tt }
+
 abbrev pub root : Node
-root = record { row = pos 0; depth = 0; named = lit≤ tt; shallow = lit≤ tt }
+root = record { row = nowhere; depth = 0; shallow = lit≤ tt }
 
 -- what the first n signed rows of a path fix
-abbrev pub trail : List ℤ → ℕ → Sides
+abbrev pub trail : List SignedRow → ℕ → Sides
 trail path zero = all_free
-trail path (suc n) = turned (trail path n) (at path n)
+trail path (suc n) = turned (trail path n) (slice_index_or path n nowhere).number
 
 -- the sides of a node: those of the path down to it, and its own
-abbrev pub sides_at : List ℤ → Node → Sides
-sides_at path node = turned (trail path node.depth) node.row
+abbrev pub sides_at : List SignedRow → Node → Sides
+sides_at path node = turned (trail path node.depth) node.row.number
 
 -- the first n of a stack, the top first
-abbrev pub nodes : List ℤ → List Node → ℕ → List Sides
+abbrev pub nodes : List SignedRow → List Node → ℕ → List Sides
 nodes path stack zero = []
 nodes path stack (suc n) = sides_at path (slice_index_or stack n root) ∷ nodes path stack n
 
@@ -48,14 +52,14 @@ free_rows (suc n) s = cond (is_free (s n)) 1 0 + free_rows n s
 
 -- each node is at least as deep as it stands high, no deeper than b or than the one above it, and has a free row
 -- for each level that is left
-abbrev pub Sane : List ℤ → List Node → ℕ → ℕ → Type 0
+abbrev pub Sane : List SignedRow → List Node → ℕ → ℕ → Type 0
 Sane path stack b zero = Unit {0}
 Sane path stack b (suc n) =
     let node = slice_index_or stack n root in
     (n ≤ node.depth) × (node.depth ≤ b) × (node.depth + free_rows 16 (sides_at path node) ≡ 16) × Sane path stack node.depth n
 
 -- the same as a test
-abbrev pub sane : List ℤ → List Node → ℕ → ℕ → Bool
+abbrev pub sane : List SignedRow → List Node → ℕ → ℕ → Bool
 sane path stack b zero = true
 sane path stack b (suc n) =
     let node = slice_index_or stack n root in
@@ -65,8 +69,3 @@ sane path stack b (suc n) =
 abbrev pub weight : List Node → ℕ → ℕ
 weight stack zero = 0
 weight stack (suc n) = 2 ^ (16 - (slice_index_or stack n root).depth) + weight stack n
-
--- the node at depth d that fixes the row r at a side
-pub record Child (r : ℕ) (side : Side) (d : ℕ) (node : Node) : Type 0 where
-  pub row : node.row ≡ signed_row r side
-  pub depth : node.depth ≡ d

@@ -11,12 +11,13 @@ use Rattle.search.specs.declared.inner.Inner.{Inner}
 use Rattle.search.specs.declared.outcome.Accepted.{Accepted}
 use Rattle.search.specs.declared.report.Report.{Report}
 use Rattle.search.specs.Claims.{Told}
+use Rattle.search.specs.Ratios.{pair_of}
 use Rattle.search.specs.Tally.{Held, Tally, Call, fresh, answer, step, after, verdict_of, cost_of, numbers_of}
 use Rattle.search.specs.View.{nodes_of, closed_of, splits_of}
 
 -- the held point as the tally has it
 abbrev pub held_of : Option code.Held → Option Held
-held_of held = option_map (λ (h : code.Held). record { numbers = h.point; cost = h.cost }) held
+held_of held = option_map (λ (h : code.Held). record { numbers = h.point; cost = pair_of h.cost }) held
 
 -- a bound within the limits of what a family answers
 abbrev pub FairJudgement : Judgement → Type 0

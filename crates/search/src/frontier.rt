@@ -1,25 +1,26 @@
 // The open nodes of a search, and the path that they share.
 ghost use Rattle.std.specs.Prelude.{◌≡◌, ℕ, ◌+◌, ◌≤◌, true};
-ghost use Rattle.family.specs.Numbers.{Small};
 ghost use Rattle.search.specs.Nodes.{sane, weight};
 
 mod growing;
-pub(crate) mod node;
+mod node;
+mod signed_row;
 
 use node::Node;
+use signed_row::SignedRow;
 
 /// The open nodes, the current one on top, with the counts of closed nodes and of splits. The path has the
 /// signed rows of the nodes that were split on the way to the current one: the sides of a node are its own and
 /// those of the path down to its depth.
 #[derive(Clone, Copy)]
 pub(crate) struct Frontier {
+    // Fixed tables: the search stands on `family` alone and takes no memory from elsewhere.
     stack: [Node; 17],
     height: usize,
-    path: [i8; 16],
+    path: [SignedRow; 16],
     closed: u32,
     splits: u32,
     ghost low: { height ≤ 17 },
-    ghost named: { Small 16 path },
     ghost sound: { sane path stack 16 height ≡ true },
     ghost weighed: { closed + weight stack height ≤ 65536 },
     ghost counted: { closed + height ≡ splits + 1 },

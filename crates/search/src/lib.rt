@@ -2,12 +2,12 @@
 #![tactic(auto)]
 
 pub mod advice;
-mod compare;
 mod frontier;
 mod held;
 mod inner;
 pub mod offer;
 pub mod outcome;
+mod ratio;
 pub mod report;
 pub mod run;
 pub mod search;

@@ -1,7 +1,7 @@
 // How a search ends.
 
 /// What is claimed at the end.
-#[derive(Clone, Copy)]
+#[derive(Clone, Copy, PartialEq, Eq, Debug)]
 pub enum Verdict {
     /// A node is open: nothing is claimed.
     Stopped,
@@ -12,7 +12,7 @@ pub enum Verdict {
 }
 
 /// The verdict, the cost of the held point, and the counts of nodes and splits.
-#[derive(Clone, Copy)]
+#[derive(Clone, Copy, PartialEq, Eq, Debug)]
 pub struct Report {
     pub verdict: Verdict,
     pub cost: Option<(i64, i64)>,

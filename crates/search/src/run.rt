@@ -14,7 +14,7 @@ use family::fault::{Fault, ListFault};
 use family::gap::Gap;
 
 /// The report of a search that is over, and the nine numbers of the held point, all 0 if there is none.
-#[derive(Clone, Copy)]
+#[derive(Clone, Copy, PartialEq, Eq, Debug)]
 pub struct Ended {
     pub report: Report,
     pub point: [i32; 9],
@@ -35,6 +35,7 @@ pub fn run<F: Family + Drop>(
         return Err(ListFault::Length.into());
     }
     let mut search = Search::open(family, gap);
+    // No zip of the two: the proof did not close, as nothing is known of what a loop writes through a zip.
     for (index, offer) in offers.iter().enumerate() {
         outcomes[index] = search.offer(*offer);
     }

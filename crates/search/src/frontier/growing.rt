@@ -7,7 +7,7 @@ ghost use Rattle.search.specs.View.{nodes_of, closed_of, splits_of, Rooted, Clos
 
 use crate::frontier::Frontier;
 use crate::frontier::node::Node;
-use crate::frontier::node::turning::{opposite, turn};
+use crate::frontier::signed_row::SignedRow;
 use family::side::Side;
 use family::sides::Sides;
 
@@ -17,9 +17,9 @@ impl Frontier {
         ensures { Rooted result }
     {
         Frontier {
-            stack: [Node { row: 0, depth: 0 }; 17],
+            stack: [Node::ROOT; 17],
             height: 1,
-            path: [0; 16],
+            path: [SignedRow::NOWHERE; 16],
             closed: 0,
             splits: 0,
         }
@@ -46,7 +46,7 @@ impl Frontier {
         self.splits
     }
 
-    // The two numbers of the current node.
+    // The current node.
     fn top(&self) -> Node
         requires { 0 < self.now.height }
         ensures { result ≡ slice_index_or self.now.stack (self.now.height - 1) root }
@@ -63,10 +63,10 @@ impl Frontier {
         }
         let top = self.top();
         let mut sides = Sides::all_free();
-        for level in 0..top.depth as usize {
-            sides = turn(sides, self.path[level]);
+        for row in &self.path[..usize::from(top.depth)] {
+            sides = row.turn(sides);
         }
-        Some(turn(sides, top.row))
+        Some(top.row.turn(sides))
     }
 
     // The current node is closed.
@@ -86,11 +86,11 @@ impl Frontier {
     {
         let top = self.top();
         let depth = top.depth + 1;
-        let named = Node::child(row, side, depth);
-        let other = Node::child(row, opposite(side), depth);
-        self.path[top.depth as usize] = top.row;
-        self.stack[self.height - 1] = other;
-        self.stack[self.height] = named;
+        let named = SignedRow::of(row, side);
+        let other = named.across();
+        self.path[usize::from(top.depth)] = top.row;
+        self.stack[self.height - 1] = Node { row: other, depth };
+        self.stack[self.height] = Node { row: named, depth };
         self.height += 1;
         self.splits += 1;
     }

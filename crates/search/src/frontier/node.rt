@@ -1,14 +1,20 @@
-// One open node as two numbers.
-ghost use Rattle.std.specs.Prelude.{ℕ, ◌≤◌, unsigned_abs};
+// One open node.
+ghost use Rattle.std.specs.Prelude.{ℕ, ◌≤◌};
 
-pub(crate) mod turning;
+use crate::frontier::signed_row::SignedRow;
 
-/// A row, counted from 1, that is fixed at its upper end if the number is positive and at its lower end if it is
-/// negative, 0 at the root; and the depth.
+/// What the node fixes beyond the node above it, which is nothing at the root; and the depth.
 #[derive(Clone, Copy)]
 pub(crate) struct Node {
-    pub(crate) row: i8,
+    pub(crate) row: SignedRow,
     pub(crate) depth: u8,
-    ghost named: { unsigned_abs row ≤ 16 },
     ghost shallow: { depth ≤ 16 },
+}
+
+impl Node {
+    /// The node that every other node stands below.
+    pub(crate) const ROOT: Node = Node {
+        row: SignedRow::NOWHERE,
+        depth: 0,
+    };
 }

@@ -1,14 +1,14 @@
 // What the held point decides.
 ghost use Rattle.std.specs.Prelude.{◌≡◌, ℕ, length};
-ghost use Rattle.family.specs.Fractions.{Fair};
 ghost use Rattle.family.specs.Reading.{gap_value};
+ghost use Rattle.search.specs.Ratios.{pair_of};
 ghost use Rattle.search.specs.Shows.{held_of, FairJudgement, Shows, Holding};
 ghost use Rattle.search.specs.Tally.{beats, shuts, fresh};
 
-use crate::compare::{cheaper, closes};
 use crate::frontier::Frontier;
 use crate::held::Held;
 use crate::inner::Inner;
+use crate::ratio::Ratio;
 use family::gap::Gap;
 use family::judgement::Judgement;
 
@@ -24,14 +24,10 @@ impl Inner {
     }
 
     // Whether a point of this cost is the first or strictly cheaper than the held one.
-    pub(crate) fn is_beaten_by(&self, cost: (i64, i64)) -> bool
-        requires { Fair cost }
-        ensures { result ≡ beats cost (held_of self.now.held) }
+    pub(crate) fn is_beaten_by(&self, cost: Ratio) -> bool
+        ensures { result ≡ beats (pair_of cost) (held_of self.now.held) }
     {
-        match self.held {
-            None => true,
-            Some(held) => cheaper(cost, held.cost),
-        }
+        self.held.is_none_or(|held| cost.is_cheaper_than(held.cost))
     }
 
     // Whether a judgement closes the current node.
@@ -39,18 +35,19 @@ impl Inner {
         requires { FairJudgement judgement }
         ensures { result ≡ shuts (gap_value gap) (held_of self.now.held) judgement }
     {
-        match (judgement, self.held) {
-            (Judgement::Void, _) => true,
-            (Judgement::Bound(_), None) => false,
-            (Judgement::Bound(bound), Some(held)) => closes(gap, bound, held.cost),
+        match judgement {
+            Judgement::Void => true,
+            Judgement::Bound(bound) => {
+                let bound = Ratio::of(bound);
+                self.held.is_some_and(|held| bound.closes(gap, held.cost))
+            }
         }
     }
 
     // Holds the point of nine numbers, in place of any other.
-    pub(crate) fn hold(&mut self, list: &[i32], cost: (i64, i64))
-        requires long { length list.now ≡ 9 }
-        requires fair { Fair cost }
-        ensures { Holding list.now cost self.old self.new }
+    pub(crate) fn hold(&mut self, list: &[i32], cost: Ratio)
+        requires { length list.now ≡ 9 }
+        ensures { Holding list.now (pair_of cost) self.old self.new }
     {
         let mut point = [0; 9];
         point.copy_from_slice(list);

@@ -13,11 +13,11 @@ impl Inner {
         ensures { result ≡ verdict_of (nodes_of self.now.frontier) (held_of self.now.held) }
     {
         if self.frontier.open() > 0 {
-            return Verdict::Stopped;
-        }
-        match self.held {
-            Some(_) => Verdict::Best,
-            None => Verdict::Nothing,
+            Verdict::Stopped
+        } else if self.held.is_some() {
+            Verdict::Best
+        } else {
+            Verdict::Nothing
         }
     }
 
@@ -25,10 +25,7 @@ impl Inner {
     fn cost(&self) -> Option<(i64, i64)>
         ensures { result ≡ cost_of (held_of self.now.held) }
     {
-        match self.held {
-            Some(held) => Some(held.cost),
-            None => None,
-        }
+        self.held.map(|held| held.cost.pair())
     }
 
     // The verdict, the cost and the counts.
@@ -48,6 +45,7 @@ impl Inner {
     pub(crate) fn numbers(&self) -> [i32; 9]
         ensures { result ≡ numbers_in self.now }
     {
+        // No `map_or`: the proof did not close over a closure that gives an array.
         match self.held {
             Some(held) => held.point,
             None => [0; 9],

@@ -46,11 +46,9 @@ impl<F: Family> Search<F> {
         let (n, m) = self.family.size();
         let point = Point::read(n, list)?;
         let sides = self.current()?;
-        for row in 0..m {
-            if let Some(side) = self.advised_at(sides, &point, row) {
-                return Ok(Some(Advice { row: row + 1, side }));
-            }
-        }
-        Ok(None)
+        Ok((0..m).find_map(|row| {
+            let side = self.advised_at(sides, &point, row)?;
+            Some(Advice { row: row + 1, side })
+        }))
     }
 }

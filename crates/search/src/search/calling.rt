@@ -1,7 +1,7 @@
 // The calls that change a search.
-ghost use Rattle.std.specs.Prelude.{◌≡◌, ℕ, true, is_err};
-ghost use Rattle.family.specs.Reading.{gap_value};
-ghost use Rattle.search.specs.Shows.{Shows, Follows};
+ghost use Rattle.std.specs.Prelude.{◌≡◌};
+ghost use Rattle.search.specs.Calls.{Made};
+ghost use Rattle.search.specs.Shows.{Shows};
 ghost use Rattle.search.specs.Tally.{fresh, point as point_call, proof as proof_call, split as split_call};
 
 use crate::inner::Inner;
@@ -27,25 +27,19 @@ impl<F: Family> Search<F> {
 
     /// Offers the point in a list of nine numbers.
     pub fn point(&mut self, list: &[i32]) -> Result<Accepted, Fault>
-        ensures family { self.new.family ≡ self.old.family }
-        ensures gap { self.new.gap ≡ self.old.gap }
-        ensures follows { Follows (F.Family.meaning self.old.family) (gap_value self.old.gap) self.old.inner (point_call list.now) self.new.inner result }
-        ensures denied { is_err result ≡ true → self.new ≡ self.old }
+        ensures { Made F.Family.meaning self.old (point_call list.now) self.new result }
     {
         let cost = self.point_cost(list)?;
         if !self.inner.is_beaten_by(cost) {
-            return Ok(Accepted::Kept(cost));
+            return Ok(Accepted::Kept(cost.pair()));
         }
         self.inner.hold(list, cost);
-        Ok(Accepted::Taken(cost))
+        Ok(Accepted::Taken(cost.pair()))
     }
 
     /// Offers the proof in a list of seventeen numbers for the current node.
     pub fn proof(&mut self, list: &[i32]) -> Result<Accepted, Fault>
-        ensures family { self.new.family ≡ self.old.family }
-        ensures gap { self.new.gap ≡ self.old.gap }
-        ensures follows { Follows (F.Family.meaning self.old.family) (gap_value self.old.gap) self.old.inner (proof_call list.now) self.new.inner result }
-        ensures denied { is_err result ≡ true → self.new ≡ self.old }
+        ensures { Made F.Family.meaning self.old (proof_call list.now) self.new result }
     {
         let judgement = self.proof_shows(list)?;
         self.inner.frontier.close();
@@ -54,10 +48,7 @@ impl<F: Family> Search<F> {
 
     /// Splits the current node at a row, counted from 1; the side, 0 lower and 1 upper, is current next.
     pub fn split(&mut self, row: i32, side: i32) -> Result<Accepted, Fault>
-        ensures family { self.new.family ≡ self.old.family }
-        ensures gap { self.new.gap ≡ self.old.gap }
-        ensures follows { Follows (F.Family.meaning self.old.family) (gap_value self.old.gap) self.old.inner (split_call row side) self.new.inner result }
-        ensures denied { is_err result ≡ true → self.new ≡ self.old }
+        ensures { Made F.Family.meaning self.old (split_call row side) self.new result }
     {
         let (row, side) = self.split_fixes(row, side)?;
         self.inner.frontier.split(row, side);

@@ -1,11 +1,13 @@
 // What the offers to a search are judged to be, in the order of the denials. Nothing is changed here.
-ghost use Rattle.std.specs.Prelude.{◌≡◌, ℕ, ◌≤◌, IfOk};
-ghost use Rattle.family.specs.Fractions.{Fair};
+ghost use Rattle.std.specs.Prelude.{◌≡◌};
+ghost use Rattle.std.specs.Result.{result_map_both};
 ghost use Rattle.family.specs.Reading.{gap_value, side_of};
+ghost use Rattle.search.specs.Ratios.{pair_of};
 ghost use Rattle.search.specs.Shows.{held_of};
 ghost use Rattle.search.specs.Tally.{point_cost, proof_shows, row_named, side_named, split_fixes};
 ghost use Rattle.search.specs.View.{nodes_of, Current};
 
+use crate::ratio::Ratio;
 use crate::search::Search;
 use family::Family;
 use family::fault::{Fault, ListFault, StateFault};
@@ -19,45 +21,35 @@ use family::sides::Sides;
 fn row_named(m: usize, row: i32) -> Result<usize, Fault>
     ensures { result ≡ row_named m row }
 {
-    if row < 1 {
-        return Err(ListFault::Limit { place: 1 }.into());
+    match usize::try_from(row) {
+        Ok(number) if (1..=m).contains(&number) => Ok(number - 1),
+        _ => Err(ListFault::Limit { place: 1 }.into()),
     }
-    let number = row.unsigned_abs() as usize;
-    if number > m {
-        return Err(ListFault::Limit { place: 1 }.into());
-    }
-    Ok(number - 1)
 }
 
 // The side that a number names.
 fn side_named(side: i32) -> Result<Side, Fault>
     ensures { result ≡ side_named side }
 {
-    match Side::from_number(side) {
-        Some(side) => Ok(side),
-        None => Err(ListFault::Limit { place: 2 }.into()),
-    }
+    Side::from_number(side).ok_or(ListFault::Limit { place: 2 }.into())
 }
 
 impl<F: Family> Search<F> {
     // The cost of the point in a list, with every switch free.
-    pub(crate) fn point_cost(&self, list: &[i32]) -> Result<(i64, i64), Fault>
-        ensures answer { result ≡ point_cost (F.Family.meaning self.now.family) list.now }
-        ensures fair { IfOk result Fair }
+    pub(crate) fn point_cost(&self, list: &[i32]) -> Result<Ratio, Fault>
+        ensures { result_map_both pair_of (λ fault. fault) result ≡ point_cost (F.Family.meaning self.now.family) list.now }
     {
         let (n, _) = self.family.size();
         let point = Point::read(n, list)?;
-        Ok(self.family.judge_point(Sides::all_free(), &point)?)
+        let cost = self.family.judge_point(Sides::all_free(), &point)?;
+        Ok(Ratio::of(cost))
     }
 
     // The full sides of the current node, if one is open.
     pub(crate) fn current(&self) -> Result<Sides, StateFault>
         ensures { Current (nodes_of self.now.inner.frontier) result }
     {
-        match self.inner.frontier.current() {
-            Some(sides) => Ok(sides),
-            None => Err(StateFault::NoNode),
-        }
+        self.inner.frontier.current().ok_or(StateFault::NoNode)
     }
 
     // What the proof in a list shows of the current node, if that closes it.

@@ -1,18 +1,12 @@
-use Rattle.std.proofs.Common.{◌≡◌, ◌<◌, [], length, get_or, sym, refl, ap, ◌∙◌, arith, length-set, rules}
-use Rattle.std.proofs.lemmas.Bool.{eq-eqb}
+use Rattle.std.proofs.Common.{◌≡◌, ◌<◌, [], length, get_or, ap, ◌∙◌, arith, length-set, rules}
 use Rattle.family.specs.Reading.{gap_value}
 use Rattle.search.specs.declared.offer.Offer.{Offer}
 use Rattle.search.specs.declared.search.Search.{Search}
 use Rattle.search.specs.Runs.{call_of, calls_in}
 use Rattle.search.specs.Shows.{report_in, numbers_in}
 use Rattle.search.proofs.Steps.{ok_same}
-use Rattle.search.proofs.Turns.{at_start, once_more, follows_at, all_done, ran_at}
+use Rattle.search.proofs.Turns.{once_more, follows_at, all_done, ran_at}
 use Rattle.search.proofs.run.run.Goals as goal
-
-pub loop-index-init : goal.loop-index-init
-loop-index-init g c =
-    let s = c.open-search.result in
-    (c.if-outcomes-offers.false, refl, refl, at_start (g.F.Family.meaning s.family) (gap_value s.gap) c.args.offers.now s.inner c.args.outcomes.now c.open-search.ensures.shown)
 
 pub loop-index-preserved : goal.loop-index-preserved
 loop-index-preserved g c =
@@ -32,8 +26,8 @@ loop-index-preserved g c =
       once_more (m s₀.family) (gap_value s₀.gap) offers i d c.loop-index-test.true s.inner s'.inner c.offer.result c.loop-index.outcomes h f inv.3,
     )
 
-pub returns : goal.returns
-returns g c =
+pub returns-clause-ran : goal.returns-clause-ran
+returns-clause-ran g c =
     let m = g.F.Family.meaning in
     let s = c.loop-index.search in
     let s₀ = c.open-search.result in
@@ -43,8 +37,5 @@ returns g c =
     let e : i ≡ length offers = omega arith in
     let told : c.in_ok-report.report ≡ report_in s.inner = ok_same c.in_ok-report.ensures.answer ∙ ap (λ (x : Search g.row.F.Denot). report_in x.inner) c.stop-stopped.ensures.same in
     let filled : c.read.new.place ≡ numbers_in s.inner = c.read.ensures.place ∙ ap (λ (x : Search g.row.F.Denot). numbers_in x.inner) c.stop-stopped.ensures.same in
-    record {
-      denied = sym (eq-eqb _ _ c.if-outcomes-offers.false);
-      ran = ran_at m s₀.family c.args.family s₀.gap c.args.gap (calls_in offers) c.in_ok-report.report c.read.new.place c.loop-index.outcomes c.open-search.ensures.family c.open-search.ensures.gap
-          (all_done (m s₀.family) (g.met.F.Family.kept s₀.family) (gap_value s₀.gap) offers i s.inner c.loop-index.outcomes c.in_ok-report.report c.read.new.place e inv.0 told filled inv.3);
-    }
+    ran_at m s₀.family c.args.family s₀.gap c.args.gap (calls_in offers) c.in_ok-report.report c.read.new.place c.loop-index.outcomes c.open-search.ensures.family c.open-search.ensures.gap
+    (all_done (m s₀.family) (g.met.F.Family.kept s₀.family) (gap_value s₀.gap) offers i s.inner c.loop-index.outcomes c.in_ok-report.report c.read.new.place e inv.0 told filled inv.3)

@@ -19,7 +19,6 @@ invariant_of-self c =
     let e : f.height ≡ suc (f.height - 1) = omega arith in
     record {
       low = omega arith;
-      named = f.named;
       sound = close_sane f.path f.stack f.height (f.height - 1) e f.sound;
       weighed = close_weight f.stack f.height (f.height - 1) f.closed e f.weighed;
       counted = omega arith;

@@ -3,5 +3,5 @@ use Rattle.family.specs.Reading.{side_of}
 use Rattle.search.specs.Nodes.{trail}
 use Rattle.search.proofs.frontier.Frontier.current.Given as goal
 
-abbrev pub invariant-loop-level : goal.invariant-loop-level
-invariant-loop-level l = side_of l.sides ≡ trail l.self.path l.level
+abbrev pub invariant-loop-row : goal.invariant-loop-row
+invariant-loop-row l = side_of l.sides ≡ trail l.row-items l.row-index

@@ -4,7 +4,7 @@ use Rattle.family.proofs.Scans.{passed}
 use Rattle.search.specs.Shows.{held_of}
 use Rattle.search.specs.Tally.{rest}
 use Rattle.search.specs.View.{nodes_of}
-use Rattle.search.proofs.Judging.{shows_err, shows_ok, judgement_fair}
+use Rattle.search.proofs.Judging.{shows_err, shows_ok}
 use Rattle.search.proofs.search.Search.proof_shows.Goals as goal
 
 pub returns-in_err-judgement : goal.returns-in_err-judgement
@@ -13,13 +13,6 @@ returns-in_err-judgement g c =
     shows_err (g.F.Family.meaning s.family) (g.met.F.Family.kept s.family) (gap_value s.gap) c.size-m.result.1 c.size-m.ensures.rows (nodes_of s.inner.frontier) (held_of s.inner.held) c.args.list.now
     c.in_ok-proof.proof (side_of c.in_ok-sides.sides) (rest (nodes_of s.inner.frontier)) c.in_ok-proof.ensures c.in_ok-sides.ensures
     c.in_err-judgement.field-0.0 c.from_residual-in_err-judgement.result (passed c.from_residual-in_err-judgement.result c.from_residual-in_err-judgement.ensures.1) c.in_err-judgement.ensures
-
-pub is_shut_by-requires : goal.is_shut_by-requires
-is_shut_by-requires g c =
-    let s = c.args.self.now in
-    judgement_fair (g.F.Family.meaning s.family) (g.met.F.Family.kept s.family) (gap_value s.gap) c.size-m.result.1 c.size-m.ensures.rows (nodes_of s.inner.frontier) (held_of s.inner.held) c.args.list.now
-    c.in_ok-proof.proof (side_of c.in_ok-sides.sides) (rest (nodes_of s.inner.frontier)) c.in_ok-proof.ensures c.in_ok-sides.ensures
-    c.in_ok-judgement.judgement c.in_ok-judgement.ensures
 
 pub returns-then-is_shut_by : goal.returns-then-is_shut_by
 returns-then-is_shut_by g c =
