@@ -1,5 +1,5 @@
 -- Which points are admitted: freeing, splitting and the ends under sides.
-use Rattle.std.proofs.Common.{◌≡◌, ℕ, zero, suc, ◌+◌, ◌<◌, ◌≤◌, Bool, true, false, cond, ◌||◌, T, eqb, ◌⊎◌, ℤ, pos, negsuc, ◌≤ℤ◌, Some, None, Ok, Err, Option, sym, refl, ap, ◌∙◌, subst, inl, inr, arith}
+use Rattle.std.proofs.Common.{◌≡◌, ℕ, ◌+◌, ◌<◌, ◌≤◌, Bool, true, false, cond, ◌||◌, T, eqb, ◌⊎◌, ℤ, pos, negsuc, ◌≤ℤ◌, Some, None, Ok, Err, Option, sym, refl, ap, subst, inl, inr, arith}
 use native.Mathlib.Decide.{ℕ_discrete}
 use lib.Signed.{le_z, le_z_yes, ≤ℤ_refl}
 use Rattle.std.proofs.lemmas.Bool.{and_parts, and_from, or_cases, or_left, or_right, eqb-true, eq-eqb, ne_eqb}
@@ -16,6 +16,7 @@ use Rattle.problem.specs.Kinds.{is_switch}
 use Rattle.problem.specs.Programs.{Program}
 use Rattle.sums.specs.Duality.{Within}
 use Rattle.rows.specs.Rules.{value, scaled, keeps, lets, passes, Admitted, stopper, told, admission, fixed_end, low_end, high_end}
+use Rattle.rows.proofs.Searches.{failing_none, none_failing, failing_inside}
 
 -- ---- freeing and fixing one row
 abbrev pub at_low : Program → ℕ → AnyPoint → Bool
@@ -91,55 +92,21 @@ pub admitted_within : (P : Program) (s : ℕ → Option Side) (x : AnyPoint) →
 admitted_within P s x a i h = lets_ends P i x (P.kind i) (s i) (a i h)
 
 -- ---- the least row that stops a point
-stopper_none : (P : Program) (s : ℕ → Option Side) (x : AnyPoint) (i count : ℕ) → stopper P s x i count ≡ None → (k : ℕ) → k < count → passes P s x (i + k) ≡ true
-unfolding stopper
-stopper_none P s x i zero e k h = let no : ⊥ = omega arith in elim no [ ]
-stopper_none P s x i (suc count) e zero h =
-    let q : i ≡ i + 0 = omega arith in subst (λ n. passes P s x n ≡ true) q (first (passes P s x i) e).0
-  where
-    first : (b : Bool) → cond b (stopper P s x (i + 1) count) (Some i) ≡ None → (b ≡ true) × (stopper P s x (i + 1) count ≡ None)
-    first true e = (refl, e)
-    first false e = let c : ◌≡◌ {A = ℕ} 0 1 = cc in let no : ⊥ = omega arith in elim no [ ]
-stopper_none P s x i (suc count) e (suc k) h =
-    let q : i + 1 + k ≡ i + suc k = omega arith in
-    subst (λ n. passes P s x n ≡ true) q (stopper_none P s x (i + 1) count (first (passes P s x i) e).1 k (omega arith))
-  where
-    first : (b : Bool) → cond b (stopper P s x (i + 1) count) (Some i) ≡ None → (b ≡ true) × (stopper P s x (i + 1) count ≡ None)
-    first true e = (refl, e)
-    first false e = let c : ◌≡◌ {A = ℕ} 0 1 = cc in let no : ⊥ = omega arith in elim no [ ]
-
-none_stopper : (P : Program) (s : ℕ → Option Side) (x : AnyPoint) (i count : ℕ) → ((k : ℕ) → k < count → passes P s x (i + k) ≡ true) → stopper P s x i count ≡ None
-unfolding stopper
-none_stopper P s x i zero a = refl
-none_stopper P s x i (suc count) a =
-    let here : passes P s x i ≡ true = (let q : i + 0 ≡ i = omega arith in subst (λ n. passes P s x n ≡ true) q (a 0 (omega arith))) in
-    ap (λ b. cond b (stopper P s x (i + 1) count) (Some i)) here
-    ∙ none_stopper P s x (i + 1) count (λ k h. let q : i + suc k ≡ i + 1 + k = omega arith in subst (λ n. passes P s x n ≡ true) q (a (suc k) (omega arith)))
-
-stopper_inside : (P : Program) (s : ℕ → Option Side) (x : AnyPoint) (i count r : ℕ) → stopper P s x i count ≡ Some r → r < i + count
-unfolding stopper
-stopper_inside P s x i zero r e = let c : ◌≡◌ {A = ℕ} 0 1 = cc in let no : ⊥ = omega arith in elim no [ ]
-stopper_inside P s x i (suc count) r e = by (stopper_inside P s x (i + 1) count r) (passes P s x i) e
-  where
-    by : (stopper P s x (i + 1) count ≡ Some r → r < i + 1 + count) → (b : Bool) → cond b (stopper P s x (i + 1) count) (Some i) ≡ Some r → r < i + suc count
-    by more true e = omega (arith, more e)
-    by more false e = let q : i ≡ r = cc in omega arith
-
 pub admission_taken : (P : Program) (s : ℕ → Option Side) (x : AnyPoint) → admission P s x ≡ Ok tt → Admitted P s x
 admission_taken P s x e i h =
     let q : 0 + i ≡ i = omega arith in
-    subst (λ n. passes P s x n ≡ true) q (stopper_none P s x 0 P.m (none (stopper P s x 0 P.m) e) i h)
+    subst (λ n. passes P s x n ≡ true) q (failing_none (passes P s x) 0 P.m (none (stopper P s x 0 P.m) e) i h)
   where
     none : (o : Option ℕ) → told o ≡ Ok tt → o ≡ None
     none None e = refl
     none (Some i) e = let c : ◌≡◌ {A = ℕ} 0 1 = cc in let no : ⊥ = omega arith in elim no [ ]
 
 pub admission_given : (P : Program) (s : ℕ → Option Side) (x : AnyPoint) → Admitted P s x → admission P s x ≡ Ok tt
-admission_given P s x a = ap told (none_stopper P s x 0 P.m (λ k h. let q : k ≡ 0 + k = omega arith in subst (λ n. passes P s x n ≡ true) q (a k h)))
+admission_given P s x a = ap told (none_failing (passes P s x) 0 P.m (λ k h. let q : k ≡ 0 + k = omega arith in subst (λ n. passes P s x n ≡ true) q (a k h)))
 
 pub admission_row : (P : Program) (s : ℕ → Option Side) (x : AnyPoint) (r : ℕ) → admission P s x ≡ Err (NotAdmitted r) → (1 ≤ r) × (r ≤ P.m)
 admission_row P s x r e = by (stopper P s x 0 P.m) refl e
   where
     by : (o : Option ℕ) → stopper P s x 0 P.m ≡ o → told o ≡ Err (NotAdmitted r) → (1 ≤ r) × (r ≤ P.m)
     by None q e = let c : ◌≡◌ {A = ℕ} 0 1 = cc in let no : ⊥ = omega arith in elim no [ ]
-    by (Some i) q e = let p : i + 1 ≡ r = cc in (omega arith, omega (arith, stopper_inside P s x 0 P.m i q))
+    by (Some i) q e = let p : i + 1 ≡ r = cc in (omega arith, omega (arith, failing_inside (passes P s x) 0 P.m i q))

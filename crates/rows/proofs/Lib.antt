@@ -5,3 +5,5 @@ pub mod Admission
 pub mod Sizes
 pub mod Voids
 pub mod Plainness
+pub mod Searches
+pub mod Columns

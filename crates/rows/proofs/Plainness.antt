@@ -1,5 +1,5 @@
 -- Admission in the rules' own words, and what sides say of rows that are no switches.
-use Rattle.std.proofs.Common.{◌≡◌, ℕ, zero, suc, ◌+◌, ◌<◌, ◌≤◌, true, false, cond, ◌&&◌, ◌||◌, ◌⊎◌, ℤ, pos, negsuc, ◌*ℤ◌, Some, None, Option, sym, refl, ap, ◌∙◌, subst, inl, inr, arith}
+use Rattle.std.proofs.Common.{◌≡◌, ℕ, ◌<◌, true, false, cond, ◌&&◌, ◌||◌, ◌⊎◌, ℤ, pos, negsuc, ◌*ℤ◌, Some, None, Option, sym, refl, ap, ◌∙◌, subst, inl, inr, arith}
 use lib.Signed.{le_z, lt_z}
 use Rattle.std.proofs.lemmas.Bool.{and_parts, and_from, or_cases, or_left, or_right, eq-eqb, lt-ltb}
 use Rattle.family.specs.declared.side.Side.{Side}
@@ -14,9 +14,10 @@ use Rattle.sums.specs.Duality.{met}
 use Rattle.sums.proofs.Totals.{total_same}
 use Rattle.rows.specs.Claims.{end_at, Keeps, Agree}
 use Rattle.rows.specs.Duals.{level_of, column_sum, is_void, met_end}
-use Rattle.rows.specs.Rules.{value, scaled, keeps, lets, passes, Admitted, stopper, told, admission, switch_at, fixed_end}
+use Rattle.rows.specs.Rules.{value, scaled, keeps, lets, passes, Admitted, told, admission, switch_at, fixed_end}
 use Rattle.rows.specs.Zeros.{all_zero}
 use Rattle.rows.proofs.Admission.{same_is, kept_ends, at_low, at_high}
+use Rattle.rows.proofs.Searches.{failing_same}
 use Rattle.rows.proofs.Voids.{holds}
 
 is_same : (a b : ℤ) → a ≡ b → same a b ≡ true
@@ -98,16 +99,8 @@ module _ (P : Program) (s t : ℕ → Option Side) (agree : Agree P s t) where
   pub void_same : (y : ℕ → ℤ) → is_void P s y ≡ is_void P t y
   void_same y = let l = level_same y in λ i. all_zero P.n (column_sum P y) && lt_z (l i) (pos 0)
 
-  stopper_same : (x : AnyPoint) (i count : ℕ) → i + count ≤ P.m → stopper P s x i count ≡ stopper P t x i count
-  unfolding stopper
-  stopper_same x i zero h = refl
-  stopper_same x i (suc count) h =
-      let here = passes_same x i (omega arith) in
-      let rest = stopper_same x (i + 1) count (omega arith) in
-      λ k. cond (here k) (rest k) (Some i)
-
   pub admission_same : (x : AnyPoint) → admission P s x ≡ admission P t x
-  admission_same x = ap told (stopper_same x 0 P.m (omega arith))
+  admission_same x = ap told (failing_same (passes P s x) (passes P t x) 0 P.m (λ i h. passes_same x i (omega arith)))
 
   pub admitted_same : (x : AnyPoint) → Admitted P s x → Admitted P t x
   admitted_same x a i h = sym (passes_same x i h) ∙ a i h

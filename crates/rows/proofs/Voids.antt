@@ -1,5 +1,5 @@
 -- What both families share of their answers: void proofs, and the price of an admitted point.
-use Rattle.std.proofs.Common.{◌≡◌, ℕ, zero, suc, ◌<◌, ◌≤◌, Bool, true, false, cond, ◌&&◌, T, ltb, List, ℤ, pos, negsuc, ◌*ℤ◌, ◌≤ℤ◌, ◌<ℤ◌, Ok, Err, Option, Result, sym, refl, ap, ◌∙◌, subst, arith}
+use Rattle.std.proofs.Common.{◌≡◌, ℕ, zero, suc, ◌<◌, ◌≤◌, Bool, true, false, cond, T, ltb, ℤ, pos, negsuc, ◌*ℤ◌, ◌≤ℤ◌, ◌<ℤ◌, Ok, Err, Option, Result, sym, refl, ap, ◌∙◌, subst, arith}
 use borrow.Author.Differences.{ints}
 use lib.IntN.{zero-*ℤ}
 use lib.Signed.{le_z, lt_z, lt_z_yes}
@@ -9,7 +9,6 @@ use Rattle.family.specs.declared.fault.PointFault.{PointFault}
 use Rattle.family.specs.declared.fault.PointFault.TheVariants.{NotAdmitted}
 use Rattle.family.specs.declared.side.Side.{Side}
 use Rattle.family.specs.Fractions.{Fraction}
-use Rattle.family.specs.Numbers.{at}
 use Rattle.family.specs.Points.{AnyPoint}
 use Rattle.family.proofs.Scans.{and_ok}
 use Rattle.problem.specs.Kinds.{is_switch}
@@ -21,7 +20,7 @@ use Rattle.rows.specs.Duals.{column_sum, level_of, is_void}
 use Rattle.rows.specs.Rules.{Admitted, admission, switch_at, low_end, high_end}
 use Rattle.rows.specs.Zeros.{all_zero}
 use Rattle.rows.proofs.Admission.{admitted_within, admission_taken, admission_given, admission_row}
-use Rattle.rows.proofs.Zeros.{zeros_same, zeros_all}
+use Rattle.rows.proofs.Zeros.{zeros_all}
 
 pub holds : {a b : ℤ} → a ≤ℤ b → le_z a b ≡ true
 holds {a} {b} h = by (le_z a b) h.le
@@ -36,18 +35,6 @@ switch_inside P r e = by (ltb r P.m) refl e
     by : (t : Bool) → ltb r P.m ≡ t → cond t (is_switch (P.kind r)) false ≡ true → (r < P.m) × (is_switch (P.kind r) ≡ true)
     by true q e = (ltb-true r P.m q, e)
     by false q e = let c : ◌≡◌ {A = ℕ} 0 1 = cc in let no : ⊥ = omega arith in elim no [ ]
-
--- ---- the code's column sums and level are those of the rules
-pub void_read : (P : Program) (s : ℕ → Option Side) (y : ℕ → ℤ) {n : ℕ} (sums : List ℤ) {l : ℤ} → n ≡ P.n → ((j : ℕ) → j < P.n → at sums j ≡ column_sum P y j) → l ≡ level_of P s y
-    → (all_zero n (at sums) && lt_z l (pos 0)) ≡ is_void P s y
-void_read P s y sums count columns level =
-    let z = ap (λ n. all_zero n (at sums)) count ∙ zeros_same P.n (at sums) (column_sum P y) columns in
-    λ i. z i && lt_z (level i) (pos 0)
-
-pub squares_read : (P : Program) (y : ℕ → ℤ) {n : ℕ} (sums : List ℤ) → n ≡ P.n → ((j : ℕ) → j < P.n → at sums j ≡ column_sum P y j) → dot n (at sums) (at sums) ≡ dot P.n (column_sum P y) (column_sum P y)
-squares_read P y sums count columns =
-    ap (λ n. dot n (at sums) (at sums)) count
-    ∙ total_same P.n (λ j. at sums j *ℤ at sums j) (λ j. column_sum P y j *ℤ column_sum P y j) (λ j h. λ i. columns j h i *ℤ columns j h i)
 
 -- ---- a void proof admits no point
 no_room : (q : ℕ) (X L : ℤ) → 0 < q → L <ℤ pos 0 → X ≡ pos 0 → X ≤ℤ (pos q *ℤ L) → ⊥

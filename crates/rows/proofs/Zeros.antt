@@ -1,10 +1,9 @@
 -- Sequences of zeros, and arrays that a loop fills.
-use Rattle.std.proofs.Common.{◌≡◌, ℕ, zero, suc, ◌+◌, ◌<◌, ◌≤◌, Bool, true, false, cond, List, length, set, replicate, ℤ, pos, negsuc, nat_abs, sym, refl, ap, ◌∙◌, subst, add-one, arith, length-set, w64, of_z}
+use Rattle.std.proofs.Common.{◌≡◌, ℕ, zero, suc, ◌<◌, ◌≤◌, Bool, true, false, cond, List, length, MatchBool, ℤ, pos, negsuc, nat_abs, sym, refl, ap, ◌∙◌, subst, arith, w64, of_z}
 use native.Mathlib.Decide.{ℕ_discrete}
-use Rattle.std.proofs.lemmas.List.{get_or-set_same, get_or-set_other}
 use Rattle.std.proofs.lemmas.Bool.{ne_eqb, eq-eqb, eqb-true}
-use Rattle.family.specs.Numbers.{at, Small, same}
-use Rattle.problem.proofs.Cells.{zeros}
+use Rattle.std.specs.List.{AllWithin, HoldsAt}
+use Rattle.family.specs.Numbers.{at, same}
 use Rattle.rows.specs.Zeros.{all_zero}
 
 -- ---- tests of a number against 0
@@ -27,14 +26,6 @@ same_zero (pos n) e = ap pos (eqb-true n 0 e)
 same_zero (negsuc n) e = let c : ◌≡◌ {A = ℕ} 0 1 = cc in let no : ⊥ = omega arith in elim no [ ]
 
 -- ---- all zero
-pub zeros_none : (f : ℕ → ℤ) → all_zero 0 f ≡ true
-unfolding all_zero
-zeros_none f = refl
-
-pub zeros_more : (n : ℕ) (f : ℕ → ℤ) → all_zero n f ≡ true → same (f n) (pos 0) ≡ true → all_zero (n + 1) f ≡ true
-unfolding all_zero
-zeros_more n f a b = ap (λ k. all_zero k f) (add-one n) ∙ (λ i. cond (a i) (same (f n) (pos 0)) false) ∙ b
-
 pub zeros_stop : (n j : ℕ) (f : ℕ → ℤ) → j < n → same (f j) (pos 0) ≡ false → all_zero n f ≡ false
 unfolding all_zero
 zeros_stop zero j f h e = let no : ⊥ = omega arith in elim no [ ]
@@ -67,30 +58,25 @@ zeros_same (suc n) f g h =
     let b = h n (omega arith) in
     λ i. cond (a i) (same (b i) (pos 0)) false
 
--- ---- an array that a loop fills up to column j
-pub record Filled (f : ℕ → ℤ) (j : ℕ) (xs : List ℤ) : Type 0 where
-  pub eight : length xs ≡ 8
-  pub done : (k : ℕ) → k < j → at xs k ≡ f k
-  pub near : Small 800000 xs
+-- ---- tests of all eight numbers of an array
+zeros_each : (n : ℕ) (f : ℕ → ℤ) → ((k : ℕ) → k < n → same (f k) (pos 0) ≡ true) → all_zero n f ≡ true
+unfolding all_zero
+zeros_each zero f h = refl
+zeros_each (suc n) f h = (λ i. cond (zeros_each n f (λ k l. h k (omega arith)) i) (same (f n) (pos 0)) false) ∙ h n (omega arith)
 
-pub filled_more : (f : ℕ → ℤ) (j : ℕ) (xs : List ℤ) {x : ℤ} → j < 8 → x ≡ f j → nat_abs x ≤ 800000 → Filled f j xs → Filled f (j + 1) (set xs j x)
-filled_more f j xs {x} h e small old =
-    let inside : j < length xs = omega (arith, old.eight) in
-    record {
-      eight = length-set xs j x ∙ old.eight;
-      done = λ k l. elim (ℕ_discrete k j) [
-        | yes p ↦ ap (at (set xs j x)) p ∙ get_or-set_same xs j x (pos 0) inside ∙ e ∙ ap f (sym p)
-        | no p ↦ get_or-set_other xs j k x (pos 0) p ∙ old.done k (omega arith)
-      ];
-      near = λ k. elim (ℕ_discrete k j) [
-        | yes p ↦ subst (λ z. nat_abs z ≤ 800000) (sym (ap (at (set xs j x)) p ∙ get_or-set_same xs j x (pos 0) inside)) small
-        | no p ↦ subst (λ z. nat_abs z ≤ 800000) (sym (get_or-set_other xs j k x (pos 0) p)) (old.near k)
-      ];
-    }
+pub zeros_decided : (xs : List ℤ) (r : Bool) → length xs ≡ 8 → MatchBool r (AllWithin (λ z. same z (pos 0) ≡ true) xs 0 (length xs)) ((k : ℕ) × (k < length xs) × HoldsAt (λ z. same z (pos 0) ≡ false) xs k) → r ≡ all_zero 8 (at xs)
+zeros_decided xs true eight h = sym (zeros_each 8 (at xs) (λ k l. h k (pos 0) (omega arith) (omega arith)))
+zeros_decided xs false eight h = sym (zeros_stop 8 h.0 (at xs) (omega (arith, h.1)) (h.2 (pos 0)))
 
-pub filled_none : (f : ℕ → ℤ) → Filled f 0 (replicate 8 (pos 0))
-filled_none f = record {
-  eight = refl;
-  done = λ k h. let no : ⊥ = omega arith in elim no [ ];
-  near = λ k. subst (λ z. nat_abs z ≤ 800000) (sym (zeros 8 k)) (omega arith);
-}
+-- numbers that are 0 from n on say nothing
+pub zeros_beyond : (n m : ℕ) (f : ℕ → ℤ) → n ≤ m → ((j : ℕ) → n ≤ j → f j ≡ pos 0) → all_zero m f ≡ all_zero n f
+unfolding all_zero
+zeros_beyond n zero f h none = let e : 0 ≡ n = omega arith in ap (λ k. all_zero k f) e
+zeros_beyond n (suc m) f h none = elim (ℕ_discrete n (suc m)) [
+  | yes e ↦ ap (λ k. all_zero k f) (sym e)
+  | no e ↦ drop (all_zero m f) (ap (λ z. same z (pos 0)) (none m (omega arith))) ∙ zeros_beyond n m f (omega arith) none
+]
+  where
+    drop : (b : Bool) {t : Bool} → t ≡ true → cond b t false ≡ b
+    drop true e = e
+    drop false e = refl

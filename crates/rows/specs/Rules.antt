@@ -1,7 +1,7 @@
 -- The rules of rows: values, ends, positions, and which points are admitted. Rows are counted by i < m and
 -- quantities by j < n. Sides tell for each row whether it is free (None) or at which end it is fixed; what
 -- they tell of a row that is no switch says nothing.
-use Rattle.std.specs.Prelude.{◌≡◌, ℕ, zero, suc, ◌+◌, ◌<◌, Bool, true, false, cond, ◌&&◌, ℤ, pos, ◌*ℤ◌, Some, None, Ok, Err, Option, Result, nat_lt}
+use Rattle.std.specs.Prelude.{◌≡◌, ℕ, ◌+◌, ◌<◌, Bool, true, false, cond, ◌&&◌, ℤ, pos, ◌*ℤ◌, Some, None, Ok, Err, Option, Result, nat_lt}
 use Rattle.family.specs.declared.fault.PointFault.{PointFault}
 use Rattle.family.specs.declared.fault.PointFault.TheVariants.{NotAdmitted}
 use Rattle.family.specs.declared.position.Position.{Position}
@@ -13,6 +13,7 @@ use Rattle.problem.specs.declared.kind.Kind.TheVariants.{Plain, Switch}
 use Rattle.problem.specs.Kinds.{is_switch}
 use Rattle.problem.specs.Programs.{Program}
 use Rattle.sums.specs.Sums.{dot}
+use Rattle.rows.specs.Searches.{first_failing}
 use Rattle.rows.specs.Standings.{between, settled, position_of}
 
 -- whether row i is a switch of the problem
@@ -44,9 +45,8 @@ abbrev pub Admitted : Program → (ℕ → Option Side) → AnyPoint → Type 0
 Admitted P s x = (i : ℕ) → i < P.m → passes P s x i ≡ true
 
 -- the least of count rows from row i on that stops the point
-unfoldable pub stopper : Program → (ℕ → Option Side) → AnyPoint → ℕ → ℕ → Option ℕ
-stopper P s x i zero = None
-stopper P s x i (suc count) = cond (passes P s x i) (stopper P s x (i + 1) count) (Some i)
+abbrev pub stopper : Program → (ℕ → Option Side) → AnyPoint → ℕ → ℕ → Option ℕ
+stopper P s x = first_failing (passes P s x)
 
 -- a point is admitted, or the least row that stops it is told, counted from 1
 abbrev pub told : Option ℕ → Result (Unit {0}) PointFault

@@ -4,12 +4,14 @@ ghost use Rattle.family.specs.Numbers.{at, Small};
 ghost use Rattle.sums.specs.Sums.{dot};
 ghost use Rattle.rows.specs.Zeros.{all_zero};
 
-/// The sums of the first n of eight columns.
+use crate::products::dot;
+
+const COLUMNS: usize = 8;
+
+/// The sums of all eight columns; those of columns that are not in use are 0.
 #[derive(Clone, Copy)]
 pub struct ColumnSums {
-    pub(crate) n: usize,
-    pub(crate) sums: [i64; 8],
-    ghost few: { n ≤ 8 },
+    pub(crate) sums: [i64; COLUMNS],
     ghost near: { Small 800000 sums },
 }
 
@@ -19,31 +21,22 @@ impl ColumnSums {
         ensures value { result ≡ at self.now.sums column }
         ensures near { unsigned_abs result ≤ 800000 }
     {
-        if column < 8 { self.sums[column] } else { 0 }
+        self.sums.get(column).copied().unwrap_or(0)
     }
 
-    /// Whether the sums of the first n columns are all 0.
+    /// Whether all sums are 0.
     pub fn all_zero(&self) -> bool
-        ensures { result ≡ all_zero self.now.n (at self.now.sums) }
+        ensures { result ≡ all_zero 8 (at self.now.sums) }
     {
-        for column in 0..self.n {
-            if self.sum(column) != 0 {
-                return false;
-            }
-        }
-        true
+        self.sums.iter().all(|sum| *sum == 0)
     }
 
-    /// The sum of the squares of the first n column sums.
+    /// The sum of the squares of the column sums.
     pub fn square_sum(&self) -> i64
-        ensures value { result ≡ dot self.now.n (at self.now.sums) (at self.now.sums) }
+        ensures value { result ≡ dot 8 (at self.now.sums) (at self.now.sums) }
         ensures near { unsigned_abs result ≤ 5120000000000 }
     {
-        let mut total = 0;
-        for column in 0..self.n {
-            let sum = self.sum(column);
-            total += sum * sum;
-        }
-        total
+        let sum = |column| self.sum(column);
+        dot::<800_000, 800_000, _, _>(COLUMNS, sum, sum)
     }
 }

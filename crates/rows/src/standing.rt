@@ -1,9 +1,16 @@
 // Where a row's value stands between its ends.
 ghost use Rattle.std.specs.Prelude.{◌≡◌, ℕ, ◌≤◌, ℤ, unsigned_abs};
+ghost use Rattle.family.specs.Points.{any_point};
+ghost use Rattle.problem.specs.Programs.{program};
+ghost use Rattle.rows.specs.Rules.{value, scaled};
 ghost use Rattle.rows.specs.Standings.{between, at_end, settled, position_of};
 
+use crate::products::dot;
+use family::point::Point;
 use family::position::Position;
 use family::side::Side;
+use problem::row::Row;
+use problem::table::Problem;
 
 /// The value of a row at a point, beside q times its lower end and q times its upper end.
 #[derive(Clone, Copy)]
@@ -16,12 +23,39 @@ pub struct Standing {
     ghost high_near: { unsigned_abs high ≤ 10000000 },
 }
 
+// The value of a row at a point, the sum of coefficient times numerator.
+fn value(problem: &Problem, row: usize, point: &Point) -> i64
+    ensures value { result ≡ value (program problem.now) row (any_point point.now) }
+    ensures near { unsigned_abs result ≤ 400000000 }
+{
+    dot::<50, 1_000_000, _, _>(
+        problem.quantities(),
+        |column| problem.coefficient(row, column),
+        |column| point.numerator(column),
+    )
+}
+
 impl Standing {
+    // The standing of a row at a point.
+    pub(crate) fn of(problem: &Problem, row: usize, point: &Point) -> Standing
+        ensures value { result.value ≡ value (program problem.now) row (any_point point.now) }
+        ensures low { result.low ≡ scaled (any_point point.now) ((program problem.now).lo row) }
+        ensures high { result.high ≡ scaled (any_point point.now) ((program problem.now).hi row) }
+    {
+        let Row { lo, hi, .. } = problem.row(row);
+        let q = point.denominator();
+        Standing {
+            value: value(problem, row, point),
+            low: q * i64::from(lo),
+            high: q * i64::from(hi),
+        }
+    }
+
     // Whether the value lies between the ends.
     pub(crate) fn keeps(self) -> bool
         ensures { result ≡ between self.value self.low self.high }
     {
-        self.low <= self.value && self.value <= self.high
+        (self.low..=self.high).contains(&self.value)
     }
 
     // Whether the value is at an end.
