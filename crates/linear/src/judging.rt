@@ -1,7 +1,7 @@
 // The interface of the family.
 ghost use Rattle.std.specs.Prelude.{◌≡◌, ℕ, ◌<◌, ◌≤◌, ℤ, ◌*ℤ◌, neg_ℤ, IfSome, unsigned_abs};
 ghost use Rattle.family.specs.Numbers.{at, same};
-ghost use Rattle.family.specs.Points.{scale_of};
+ghost use Rattle.family.specs.Points.{denominator_of};
 ghost use Rattle.problem.specs.Programs.{program};
 ghost use Rattle.linear.specs.Bounds.{first_difference, balancing, meaning_of};
 ghost use Rattle.linear.specs.Laws.{laws};
@@ -37,10 +37,10 @@ fn equal(a: i64, b: i64) -> bool
 impl LinearCosts {
     // The index of the first column that does not balance; None where all do.
     fn off_balance(&self, proof: &Proof, columns: &ColumnSums) -> Option<usize>
-        ensures least { result ≡ first_difference (at columns.now.sums) (balancing (scale_of proof.now) (at self.now.rates.rates)) 0 (program self.now.problem).n }
+        ensures least { result ≡ first_difference (at columns.now.sums) (balancing (denominator_of proof.now) (at self.now.rates.rates)) 0 (program self.now.problem).n }
         ensures few { IfSome result (λ j. j < 8) }
     {
-        let scale = proof.scale();
+        let scale = proof.denominator();
         for column in 0..self.problem.quantities() {
             if !equal(columns.sum(column), wanted(scale, self.rates.rate(column))) {
                 return Some(column);
@@ -75,7 +75,7 @@ impl Family for LinearCosts {
             return Ok(Judgement::Void);
         }
         match self.off_balance(proof, &columns) {
-            None => Ok(Judgement::Bound((-level, proof.scale()))),
+            None => Ok(Judgement::Bound((-level, proof.denominator()))),
             Some(index) => Err(ProofFault::NotBalanced { column: index + 1 }),
         }
     }

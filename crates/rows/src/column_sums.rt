@@ -5,13 +5,12 @@ ghost use Rattle.sums.specs.Sums.{dot};
 ghost use Rattle.rows.specs.Zeros.{all_zero};
 
 use crate::products::dot;
-
-const COLUMNS: usize = 8;
+use family::sizes::QUANTITIES;
 
 /// The sums of all eight columns; those of columns that are not in use are 0.
 #[derive(Clone, Copy)]
 pub struct ColumnSums {
-    pub(crate) sums: [i64; COLUMNS],
+    pub(crate) sums: [i64; QUANTITIES],
     ghost near: { Small 800000 sums },
 }
 
@@ -37,6 +36,6 @@ impl ColumnSums {
         ensures near { unsigned_abs result ≤ 5120000000000 }
     {
         let sum = |column| self.sum(column);
-        dot::<800_000, 800_000, _, _>(COLUMNS, sum, sum)
+        dot::<800_000, 800_000, _, _>(QUANTITIES, sum, sum)
     }
 }

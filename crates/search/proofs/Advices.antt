@@ -11,11 +11,11 @@ use Rattle.std.specs.Iterator.Runs.{SomeRun, AllItemsGive, IsFirstToGive, CallKe
 use Rattle.std.specs.Option.{option_map, option_or}
 use Rattle.std.specs.Result.{result_and}
 use Rattle.family.specs.declared.fault.Fault.{Fault}
-use Rattle.family.specs.declared.point.Point.{Point}
+use Rattle.family.specs.Points.{Point}
 use Rattle.family.specs.declared.shape.Shape.TheVariants.{Point as PointShape}
 use Rattle.family.specs.Lists.{list_fault}
 use Rattle.family.specs.Meaning.{Meaning}
-use Rattle.family.specs.Points.{AnyPoint, HasPoint, any_point, point_in}
+use Rattle.family.specs.Points.{AnyPoint, Holds, any_point, point_in}
 use Rattle.search.specs.declared.advice.Advice.{Advice}
 use Rattle.search.specs.Advising.{advised_at, at_row, least_from, advice}
 use Rattle.search.specs.Tally.{Sides, list_judged, at_current}
@@ -80,7 +80,7 @@ module _ (M : Meaning) (s : Sides) (x : AnyPoint) where
 
 -- the whole answer, once the list is read and the current node is known
 pub advice_is : (M : Meaning) (n m : ℕ) → n ≡ M.n → m ≡ M.m → (nodes pending : List Sides) → nodes ≡ pending → (s : Sides) (others : List Sides) → nodes ≡ s ∷ others
-    → (list : List ℤ) (x : Point) → (list_fault (PointShape n) list ≡ Ok tt) × HasPoint list x → (r : Option Advice) → least_from M s (any_point x) 0 m ≡ r → Ok r ≡ advice M pending list
+    → (list : List ℤ) (x : Point) → (list_fault (PointShape n) list ≡ Ok tt) × Holds list x → (r : Option Advice) → least_from M s (any_point x) 0 m ≡ r → Ok r ≡ advice M pending list
 advice_is M n m is_n is_m nodes pending same s others top list x read r e =
     let fine : list_fault (PointShape M.n) list ≡ Ok tt = subst (λ k. list_fault (PointShape k) list ≡ Ok tt) is_n read.0 in
     let at_node : Sides → Result (Option Advice) Fault = λ z. Ok (least_from M z (point_in list) 0 M.m) in

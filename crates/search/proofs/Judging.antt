@@ -1,25 +1,24 @@
 -- What the judging of offers comes to, step by step.
-use Rattle.std.proofs.Common.{◌≡◌, ℕ, Bool, false, cond, List, [], ◌∷◌, ℤ, pos, negsuc, Some, None, Ok, Err, Option, Result, sym, refl, ap, ◌∙◌, subst, ap₂}
+use Rattle.std.proofs.Common.{◌≡◌, ℕ, Bool, false, cond, List, [], ◌∷◌, ℤ, pos, negsuc, Some, None, Ok, Err, Option, Result, MatchResult, IsErrAnd, sym, refl, ap, ◌∙◌, subst, ap₂}
 use Rattle.std.proofs.lemmas.Bool.{ne_eqb}
 use Rattle.family.specs.declared.fault.ListFault.TheVariants.{Limit}
 use Rattle.family.specs.declared.side.Side.TheVariants.{Lower, Upper}
 use Rattle.family.specs.Numbers.{same, Numbered}
 use Rattle.family.specs.Sides.{side_number}
-use Rattle.std.specs.Option.{ok_or}
-use Rattle.std.specs.Result.{result_and}
+use Rattle.family.specs.declared.side.UnknownSide.{UnknownSide}
+use Rattle.std.specs.Result.{result_and, result_map_both}
 use Rattle.family.specs.declared.fault.Fault.{Fault}
 use Rattle.family.specs.declared.fault.Fault.TheVariants.{List as in_list, Proof as in_proof, State as in_state}
 use Rattle.family.specs.declared.fault.ProofFault.{ProofFault}
 use Rattle.family.specs.declared.fault.StateFault.TheVariants.{Weak}
 use Rattle.family.specs.declared.judgement.Judgement.{Judgement}
-use Rattle.family.specs.declared.point.Point.{Point}
-use Rattle.family.specs.declared.proof.Proof.{Proof}
+use Rattle.family.specs.Points.{Point, Proof}
 use Rattle.family.specs.declared.shape.Shape.TheVariants.{Point as PointShape, Proof as ProofShape}
 use Rattle.family.specs.declared.side.Side.{Side}
 use Rattle.family.specs.Fractions.{Fraction, Fair}
 use Rattle.family.specs.Lists.{list_fault}
 use Rattle.family.specs.Meaning.{Meaning, Laws}
-use Rattle.family.specs.Points.{HasPoint, HasProof, any_point, any_proof, point_in, proof_in}
+use Rattle.family.specs.Points.{Holds, any_point, any_proof, point_in, proof_in}
 use Rattle.search.proofs.Steps.{proof_fine}
 use Rattle.search.specs.Tally.{Sides, all_free, Held, and_then, list_judged, proof_judged, at_current, shuts, strong, proof_shows, side_named, split_fixes}
 use Rattle.search.proofs.Offers.{offered_point, point_is, proof_is}
@@ -29,12 +28,22 @@ not_same : (z : ℤ) (n : ℕ) → (pos n ≡ z → ⊥) → same z (pos n) ≡ 
 not_same (pos k) n h = ne_eqb k n (λ e. h (ap pos (sym e)))
 not_same (negsuc k) n h = refl
 
-pub side_is : (z : ℤ) (o : Option Side) → Numbered side_number z o → ok_or o (in_list (Limit 2)) ≡ side_named z
-side_is z None h =
+side_is : (z : ℤ) (o : Result Side UnknownSide) → Numbered side_number z o → result_map_both (λ side. side) (λ _. in_list (Limit 2)) o ≡ side_named z
+side_is z (Err e) h =
     sym (ap (λ b. cond b (Ok Lower) (cond (same z (pos 1)) (Ok Upper) (Err (in_list (Limit 2))))) (not_same z 0 (h Lower))
     ∙ ap (λ b. cond b (Ok Upper) (Err (in_list (Limit 2)))) (not_same z 1 (h Upper)))
-side_is z (Some Lower) h = ap side_named h
-side_is z (Some Upper) h = ap side_named h
+side_is z (Ok Lower) h = ap side_named h
+side_is z (Ok Upper) h = ap side_named h
+
+-- P tells what the closure makes of an error
+pub side_by : {P : UnknownSide → Fault → Type 0} (z : ℤ) (o : Result Side UnknownSide) (r : Result Side Fault) → Numbered side_number z o
+    → MatchResult o (λ side. r ≡ Ok side) (λ e. IsErrAnd r (P e)) → ((e : UnknownSide) (f : Fault) → P e f → f ≡ in_list (Limit 2)) → r ≡ side_named z
+side_by {P} z o r h m p = by o r m ∙ side_is z o h
+  where
+    by : (o : Result Side UnknownSide) (r : Result Side Fault) → MatchResult o (λ side. r ≡ Ok side) (λ e. IsErrAnd r (P e)) → r ≡ result_map_both (λ side. side) (λ _. in_list (Limit 2)) o
+    by (Ok side) r e = e
+    by (Err e) (Ok side) n = elim n [ ]
+    by (Err e) (Err f) q = ap Err (p e f q)
 
 -- the numbers as a callee reads them
 pub fixes_at : (M : Meaning) (nodes : List Sides) (r : Result (ℕ × Side) Fault) {row row' side side' : ℤ} → row' ≡ row → side' ≡ side → r ≡ split_fixes M nodes row' side' → r ≡ split_fixes M nodes row side
@@ -42,7 +51,7 @@ fixes_at M nodes r p q e = e ∙ ap₂ (split_fixes M nodes) p q
 
 module _ (M : Meaning) (laws : Laws M) where
   -- ---- points
-  module _ (n : ℕ) (is_n : n ≡ M.n) (list : List ℤ) (x : Point) (s : Sides) (free : (k : ℕ) → s k ≡ None) (read : (list_fault (PointShape n) list ≡ Ok tt) × HasPoint list x) where
+  module _ (n : ℕ) (is_n : n ≡ M.n) (list : List ℤ) (x : Point) (s : Sides) (free : (k : ℕ) → s k ≡ None) (read : (list_fault (PointShape n) list ≡ Ok tt) × Holds list x) where
     fine : list_fault (PointShape M.n) list ≡ Ok tt
     fine = subst (λ k. list_fault (PointShape k) list ≡ Ok tt) is_n read.0
 
@@ -54,7 +63,7 @@ module _ (M : Meaning) (laws : Laws M) where
 
   -- ---- proofs
   module _ (gap m : ℕ) (is_m : m ≡ M.m) (nodes : List Sides) (held : Option Held) (list : List ℤ) (x : Proof) (s : Sides) (others : List Sides)
-      (read : (list_fault (ProofShape m) list ≡ Ok tt) × HasProof list x) (top : nodes ≡ s ∷ others) where
+      (read : (list_fault (ProofShape m) list ≡ Ok tt) × Holds list x) (top : nodes ≡ s ∷ others) where
     fine_proof : list_fault (ProofShape M.m) list ≡ Ok tt
     fine_proof = subst (λ k. list_fault (ProofShape k) list ≡ Ok tt) is_m read.0
 

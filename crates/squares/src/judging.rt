@@ -48,7 +48,7 @@ impl Family for LeastSquares {
         if duals::is_void(&columns, level) {
             return Ok(Judgement::Void);
         }
-        Ok(Judgement::Bound(bound(proof.scale(), columns.square_sum(), level)))
+        Ok(Judgement::Bound(bound(proof.denominator(), columns.square_sum(), level)))
     }
 
     fn position(&self, row: usize, point: &Point) -> Position {

@@ -1,7 +1,7 @@
 // From a proof to its dual quantities.
 ghost use Rattle.std.specs.Prelude.{◌≡◌, ℕ, ◌≤◌, ◌&&◌, true, ℤ, pos, int_lt, MatchOption, unsigned_abs};
 ghost use Rattle.family.specs.Numbers.{at};
-ghost use Rattle.family.specs.Points.{multiplier_of};
+ghost use Rattle.family.specs.Points.{numerator_of};
 ghost use Rattle.family.specs.Reading.{side_of};
 ghost use Rattle.problem.specs.Programs.{program};
 ghost use Rattle.rows.specs.Duals.{column_sum, met_end, level_of, is_void};
@@ -18,19 +18,19 @@ use std::array;
 
 // The sum over the rows of coefficient times multiplier in one column.
 fn column_sum(problem: &Problem, proof: &Proof, column: usize) -> i64
-    ensures value { result ≡ column_sum (program problem.now) (multiplier_of proof.now) column }
+    ensures value { result ≡ column_sum (program problem.now) (numerator_of proof.now) column }
     ensures near { unsigned_abs result ≤ 800000 }
 {
     dot::<50, 1_000, _, _>(
         problem.row_count(),
         |row| problem.coefficient(row, column),
-        |row| proof.multiplier(row),
+        |row| proof.numerator(row),
     )
 }
 
 /// The sums of all columns.
 pub fn column_sums(problem: &Problem, proof: &Proof) -> ColumnSums
-    ensures { (j : ℕ) → at result.sums j ≡ column_sum (program problem.now) (multiplier_of proof.now) j }
+    ensures { (j : ℕ) → at result.sums j ≡ column_sum (program problem.now) (numerator_of proof.now) j }
 {
     ColumnSums {
         sums: array::from_fn(|column| column_sum(problem, proof, column)),
@@ -40,28 +40,28 @@ pub fn column_sums(problem: &Problem, proof: &Proof) -> ColumnSums
 impl Restriction<'_> {
     // The end of a row that its multiplier meets: the upper one where the multiplier is positive.
     fn meet(&self, proof: &Proof, row: usize) -> i64
-        ensures value { result ≡ met_end (program self.now.problem.now) (side_of self.now.sides) (multiplier_of proof.now) row }
+        ensures value { result ≡ met_end (program self.now.problem.now) (side_of self.now.sides) (numerator_of proof.now) row }
         ensures near { unsigned_abs result ≤ 10000 }
     {
         let (lo, hi) = self.ends(row);
-        if proof.multiplier(row) > 0 { hi } else { lo }
+        if proof.numerator(row) > 0 { hi } else { lo }
     }
 
     /// The level: the sum over the rows of multiplier times the end that it meets.
     pub fn level(&self, proof: &Proof) -> i64
-        ensures value { result ≡ level_of (program self.now.problem.now) (side_of self.now.sides) (multiplier_of proof.now) }
+        ensures value { result ≡ level_of (program self.now.problem.now) (side_of self.now.sides) (numerator_of proof.now) }
         ensures near { unsigned_abs result ≤ 160000000 }
     {
         dot::<1_000, 10_000, _, _>(
             self.problem.row_count(),
-            |row| proof.multiplier(row),
+            |row| proof.numerator(row),
             |row| self.meet(proof, row),
         )
     }
 
     /// The dual quantities of a proof; None where they show it void, and so that no point is admitted.
     pub fn duals(&self, proof: &Proof) -> Option<Duals>
-        ensures { MatchOption result (is_void (program self.now.problem.now) (side_of self.now.sides) (multiplier_of proof.now) ≡ true) (HasDuals (program self.now.problem.now) (side_of self.now.sides) (multiplier_of proof.now)) }
+        ensures { MatchOption result (is_void (program self.now.problem.now) (side_of self.now.sides) (numerator_of proof.now) ≡ true) (HasDuals (program self.now.problem.now) (side_of self.now.sides) (numerator_of proof.now)) }
     {
         let duals = Duals {
             columns: column_sums(self.problem, proof),

@@ -31,7 +31,7 @@ fn row_named(m: usize, row: i32) -> Result<usize, Fault>
 fn side_named(side: i32) -> Result<Side, Fault>
     ensures { result ≡ side_named side }
 {
-    Side::from_number(side).ok_or(ListFault::Limit { place: 2 }.into())
+    Side::try_from(side).map_err(|_| ListFault::Limit { place: 2 }.into())
 }
 
 impl<F: Family> Search<F> {

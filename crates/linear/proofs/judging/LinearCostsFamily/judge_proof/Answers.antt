@@ -1,6 +1,6 @@
 use Rattle.std.proofs.Common.{◌≤◌, nat_abs, sym, refl, ◌∙◌, subst, arith}
 use Rattle.family.specs.Numbers.{at}
-use Rattle.family.specs.Points.{scale_of, multiplier_of}
+use Rattle.family.specs.Points.{denominator_of, numerator_of}
 use Rattle.family.specs.Reading.{side_of}
 use Rattle.family.proofs.Casts.{result_back}
 use Rattle.problem.specs.Programs.{program}
@@ -13,9 +13,9 @@ pub returns-then-is_void : goal.returns-then-is_void
 returns-then-is_void c =
     let P = program c.args.self.now.problem in
     let s = side_of c.args.sides in
-    let y = multiplier_of c.args.proof.now in
+    let y = numerator_of c.args.proof.now in
     let l = result_back 160000000 c.level-level.ensures.value c.level-level.ensures.near (omega arith) in
-    judged_void P (at c.args.self.now.rates.rates) s (scale_of c.args.proof.now) y
+    judged_void P (at c.args.self.now.rates.rates) s (denominator_of c.args.proof.now) y
     (sym (void_read P s y c.column_sums-columns.result.sums c.column_sums-columns.ensures.count c.column_sums-columns.ensures.sums l) ∙ sym c.if-is_void.ensures)
 
 pub returns-in-None : goal.returns-in-None
@@ -23,11 +23,11 @@ returns-in-None c =
     let P = program c.args.self.now.problem in
     let rates = at c.args.self.now.rates.rates in
     let s = side_of c.args.sides in
-    let scale = scale_of c.args.proof.now in
-    let y = multiplier_of c.args.proof.now in
+    let scale = denominator_of c.args.proof.now in
+    let y = numerator_of c.args.proof.now in
     let l = result_back 160000000 c.level-level.ensures.value c.level-level.ensures.near (omega arith) in
     let top = minus_read l (subst (λ z. nat_abs z ≤ 160000000) c.level-level.ensures.value c.level-level.ensures.near) in
-    let below = result_back 1000 c.scale.ensures.value c.scale.ensures.small (omega arith) in
+    let below = result_back 1000 c.denominator.ensures.value c.denominator.ensures.small (omega arith) in
     judged_off P rates s scale y
     (sym (void_read P s y c.column_sums-columns.result.sums c.column_sums-columns.ensures.count c.column_sums-columns.ensures.sums l) ∙ sym c.if-is_void.ensures)
     (off_read P rates s scale y c.column_sums-columns.result.sums c.column_sums-columns.ensures.sums c.in-None.ensures.least)
@@ -38,8 +38,8 @@ returns-in-Some c =
     let P = program c.args.self.now.problem in
     let rates = at c.args.self.now.rates.rates in
     let s = side_of c.args.sides in
-    let scale = scale_of c.args.proof.now in
-    let y = multiplier_of c.args.proof.now in
+    let scale = denominator_of c.args.proof.now in
+    let y = numerator_of c.args.proof.now in
     let l = result_back 160000000 c.level-level.ensures.value c.level-level.ensures.near (omega arith) in
     judged_off P rates s scale y
     (sym (void_read P s y c.column_sums-columns.result.sums c.column_sums-columns.ensures.count c.column_sums-columns.ensures.sums l) ∙ sym c.if-is_void.ensures)

@@ -1,5 +1,5 @@
 use Rattle.std.proofs.Common.{ℕ, ap, ◌∙◌, arith, rules}
-use Rattle.family.specs.Points.{multiplier_of}
+use Rattle.family.specs.Points.{numerator_of}
 use Rattle.family.proofs.Casts.{result_back}
 use Rattle.problem.specs.Programs.{program}
 use Rattle.sums.specs.Sums.{dot}
@@ -9,5 +9,5 @@ pub returns-clause-value : goal.returns-clause-value
 returns-clause-value c =
     let P = program c.args.problem.now in
     let f = λ (i : ℕ). P.coefficient i c.args.column in
-    let y = multiplier_of c.args.proof.now in
+    let y = numerator_of c.args.proof.now in
     result_back 800000 (c.dot.ensures.value f y (λ k x h p. search rules) (λ k x h p. search rules) ∙ ap (λ n. dot n f y) c.row_count.ensures.value) (omega (arith, c.dot.ensures.near)) (omega arith)

@@ -1,5 +1,5 @@
 use Rattle.std.proofs.Common.{ap, ◌∙◌, arith, rules}
-use Rattle.family.specs.Points.{multiplier_of}
+use Rattle.family.specs.Points.{numerator_of}
 use Rattle.family.specs.Reading.{side_of}
 use Rattle.family.proofs.Casts.{result_back}
 use Rattle.problem.specs.Programs.{program}
@@ -9,6 +9,6 @@ use Rattle.rows.proofs.restriction.Restriction.level.Goals as goal
 
 pub returns-clause-value : goal.returns-clause-value
 returns-clause-value c =
-    let y = multiplier_of c.args.proof.now in
+    let y = numerator_of c.args.proof.now in
     let met = met_end (program c.args.self.now.problem.now) (side_of c.args.self.now.sides) y in
     result_back 160000000 (c.dot.ensures.value y met (λ k x h p. search rules) (λ k x h p. search rules) ∙ ap (λ n. dot n y met) c.row_count.ensures.value) (omega (arith, c.dot.ensures.near)) (omega arith)
