@@ -6,7 +6,7 @@ use Rattle.family.specs.declared.fault.Fault.{Fault}
 use Rattle.family.specs.declared.judgement.Judgement.{Judgement}
 use Rattle.family.specs.declared.side.Side.{Side}
 use Rattle.family.specs.Fractions.{Fraction}
-use Rattle.family.specs.Meaning.{Meaning, Laws}
+use Rattle.family.specs.Meaning.{Meaning}
 use Rattle.family.specs.Reading.{gap_value}
 use Rattle.search.specs.declared.inner.Inner.{Inner}
 use Rattle.search.specs.declared.frontier.Frontier.{Frontier}
@@ -83,10 +83,10 @@ module _ {F : Type 0} (meaning : F → Meaning) (s : Search F) where
   closing_length : (nodes done : List Sides) (x : Sides) (xs : List Sides) → nodes ≡ x ∷ xs → length (closing nodes done) ≡ length done + 1
   closing_length nodes done x xs e = ap (λ z. length (closing z done)) e ∙ omega arith
 
-  pub proof_closed : Laws M → (list : List ℤ) (j : Judgement) (f : Frontier) → Ok j ≡ proof_shows M gap (nodes_of s.inner.frontier) (held_of s.inner.held) list
+  pub proof_closed : (list : List ℤ) (j : Judgement) (f : Frontier) → Ok j ≡ proof_shows M gap (nodes_of s.inner.frontier) (held_of s.inner.held) list
       → Closed s.inner.frontier f → Made meaning s (proof list) (at (record { held = s.inner.held; frontier = f })) (Ok (Accepted.Closed j))
-  proof_closed laws list j f e c =
-      let top = proof_open M laws gap (nodes_of s.inner.frontier) (held_of s.inner.held) list j (sym e) in
+  proof_closed list j f e c =
+      let top = proof_open M gap (nodes_of s.inner.frontier) (held_of s.inner.held) list j (sym e) in
       by_deed (proof list) (record { held = s.inner.held; frontier = f }) (close j) (judged_proof list (Ok j) e) (λ t sh. record {
         nodes = c.nodes ∙ ap rest sh.nodes;
         closed = c.closed ∙ ap (λ n. n + 1) sh.closed ∙ sym (closing_length t.pending t.closed top.0 top.1 (sym sh.nodes ∙ top.2));

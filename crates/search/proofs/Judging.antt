@@ -20,7 +20,10 @@ use Rattle.family.specs.Lists.{list_fault}
 use Rattle.family.specs.Meaning.{Meaning, Laws}
 use Rattle.family.specs.Points.{Holds, any_point, any_proof, point_in, proof_in}
 use Rattle.search.proofs.Steps.{proof_fine}
-use Rattle.search.specs.Tally.{Sides, all_free, Held, and_then, list_judged, proof_judged, at_current, shuts, strong, proof_shows, side_named, split_fixes}
+use Rattle.search.specs.declared.inner.Inner.{Inner}
+use Rattle.search.specs.Shows.{held_of}
+use Rattle.search.specs.View.{nodes_of}
+use Rattle.search.specs.Tally.{rest, Sides, all_free, Held, and_then, list_judged, proof_judged, at_current, shuts, strong, proof_shows, side_named, split_fixes}
 use Rattle.search.proofs.Offers.{offered_point, point_is, proof_is}
 
 -- ---- the numbers of a split
@@ -61,27 +64,25 @@ module _ (M : Meaning) (laws : Laws M) where
     pub cost_fair : (c : Fraction) → Ok c ≡ M.judge_point s (any_point x) → Fair c
     cost_fair c j = laws.fair_cost all_free (point_in list) c (offered_point M.n list fine) (sym (j ∙ at_free))
 
-  -- ---- proofs
-  module _ (gap m : ℕ) (is_m : m ≡ M.m) (nodes : List Sides) (held : Option Held) (list : List ℤ) (x : Proof) (s : Sides) (others : List Sides)
-      (read : (list_fault (ProofShape m) list ≡ Ok tt) × Holds list x) (top : nodes ≡ s ∷ others) where
-    fine_proof : list_fault (ProofShape M.m) list ≡ Ok tt
-    fine_proof = subst (λ k. list_fault (ProofShape k) list ≡ Ok tt) is_m read.0
+-- ---- proofs
+-- of a list that is read as the proof x while the current node has the sides s
+module _ (M : Meaning) (gap : ℕ) (i : Inner) (m : ℕ) (is_m : m ≡ M.m) (list : List ℤ) (x : Proof) (s : Sides)
+    (read : (list_fault (ProofShape m) list ≡ Ok tt) × Holds list x) (top : nodes_of i.frontier ≡ s ∷ rest (nodes_of i.frontier)) where
+  abbrev at_node : Sides → Result Judgement Fault
+  at_node z = and_then (proof_judged (M.judge_proof z (proof_in list))) (strong gap (held_of i.held))
 
-    abbrev at_node : Sides → Result Judgement Fault
-    at_node z = and_then (proof_judged (M.judge_proof z (proof_in list))) (strong gap held)
+  shows_is : (r : Result Judgement ProofFault) → r ≡ M.judge_proof s (any_proof x) → proof_shows M gap (nodes_of i.frontier) (held_of i.held) list ≡ and_then (proof_judged r) (strong gap (held_of i.held))
+  shows_is r j =
+      ap (λ z. result_and (list_judged z) (at_current (nodes_of i.frontier) at_node)) (subst (λ k. list_fault (ProofShape k) list ≡ Ok tt) is_m read.0)
+      ∙ ap (λ z. at_current z at_node) top
+      ∙ ap (λ z. and_then (proof_judged z) (strong gap (held_of i.held))) (sym (j ∙ ap (M.judge_proof s) (proof_is list x read.1)))
 
-    shows_is : (r : Result Judgement ProofFault) → r ≡ M.judge_proof s (any_proof x) → proof_shows M gap nodes held list ≡ and_then (proof_judged r) (strong gap held)
-    shows_is r j =
-        ap (λ z. result_and (list_judged z) (at_current nodes at_node)) fine_proof
-        ∙ ap (λ z. at_current z at_node) top
-        ∙ ap (λ z. and_then (proof_judged z) (strong gap held)) (sym (j ∙ ap (M.judge_proof s) (proof_is list x read.1)))
+  pub shows_err : (e : ProofFault) (r : Result Judgement Fault) → r ≡ Err (in_proof e) → Err e ≡ M.judge_proof s (any_proof x) → r ≡ proof_shows M gap (nodes_of i.frontier) (held_of i.held) list
+  shows_err e r is j = is ∙ sym (shows_is (Err e) j)
 
-    pub shows_err : (e : ProofFault) (r : Result Judgement Fault) → r ≡ Err (in_proof e) → Err e ≡ M.judge_proof s (any_proof x) → r ≡ proof_shows M gap nodes held list
-    shows_err e r is j = is ∙ sym (shows_is (Err e) j)
+  pub shows_ok : (j : Judgement) → Ok j ≡ M.judge_proof s (any_proof x) → (b : Bool) → shuts gap (held_of i.held) j ≡ b → cond b (Ok j) (Err (in_state Weak)) ≡ proof_shows M gap (nodes_of i.frontier) (held_of i.held) list
+  shows_ok j e b is = sym (shows_is (Ok j) e ∙ ap (λ z. cond z (Ok j) (Err (in_state Weak))) is)
 
-    pub shows_ok : (j : Judgement) → Ok j ≡ M.judge_proof s (any_proof x) → (b : Bool) → shuts gap held j ≡ b → cond b (Ok j) (Err (in_state Weak)) ≡ proof_shows M gap nodes held list
-    shows_ok j e b is = sym (shows_is (Ok j) e ∙ ap (λ z. cond z (Ok j) (Err (in_state Weak))) is)
-
-  pub proof_open : (gap : ℕ) (nodes : List Sides) (held : Option Held) (list : List ℤ) (j : Judgement) → proof_shows M gap nodes held list ≡ Ok j → (s : Sides) × (others : List Sides) × (nodes ≡ s ∷ others)
-  proof_open gap [] held list j e = absurd (proof_fine M gap [] held list j e)
-  proof_open gap (s ∷ ss) held list j e = (s, ss, refl)
+pub proof_open : (M : Meaning) (gap : ℕ) (nodes : List Sides) (held : Option Held) (list : List ℤ) (j : Judgement) → proof_shows M gap nodes held list ≡ Ok j → (s : Sides) × (others : List Sides) × (nodes ≡ s ∷ others)
+proof_open M gap [] held list j e = absurd (proof_fine M gap [] held list j e)
+proof_open M gap (s ∷ ss) held list j e = (s, ss, refl)

@@ -8,3 +8,4 @@ pub mod Shows
 pub mod Calls
 pub mod Advising
 pub mod Runs
+pub mod Texts

@@ -14,7 +14,7 @@ use signed_row::SignedRow;
 /// those of the path down to its depth.
 #[derive(Clone, Copy)]
 pub(crate) struct Frontier {
-    // Fixed tables: the search stands on `family` alone and takes no memory from elsewhere.
+    // Tables with a height: a rule of the project, as a search has fixed memory and stands on `family` alone.
     stack: [Node; 17],
     height: usize,
     path: [SignedRow; 16],

@@ -5,5 +5,6 @@
 pub enum Offer<'a> {
     Point(&'a [i32]),
     Proof(&'a [i32]),
+    // The side is a number: a rule of the project, as an offer may lie outside its limits and is judged here.
     Split { row: i32, side: i32 },
 }

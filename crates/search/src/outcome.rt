@@ -2,7 +2,7 @@
 use family::judgement::Judgement;
 
 /// What an accepted offer did. A cost and a judgement are those of the offer.
-#[derive(Clone, Copy)]
+#[derive(Clone, Copy, Debug, PartialEq, Eq)]
 pub enum Accepted {
     /// The point is held now: it is the first, or strictly cheaper than the one held before.
     Taken((i64, i64)),

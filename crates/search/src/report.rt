@@ -1,5 +1,7 @@
 // How a search ends.
 
+mod telling;
+
 /// What is claimed at the end.
 #[derive(Clone, Copy, PartialEq, Eq, Debug)]
 pub enum Verdict {

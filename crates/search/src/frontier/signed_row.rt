@@ -7,6 +7,7 @@ mod turning;
 /// negative; 0 fixes nothing.
 #[derive(Clone, Copy)]
 pub(crate) struct SignedRow {
+    // The side is the sign: a rule of the project, as a stored node is two small numbers.
     number: i8,
     ghost small: { unsigned_abs number ≤ 16 },
 }

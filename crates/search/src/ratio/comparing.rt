@@ -26,7 +26,8 @@ impl Ratio {
         (self.numerator, self.denominator)
     }
 
-    // Whether this cost is strictly cheaper than another.
+    // Whether this cost is strictly cheaper than another. Not as `PartialOrd`: pairs that stand for one cost may
+    // differ, so that an order would need an equality of its own, and nothing asks for more than this.
     pub(crate) fn is_cheaper_than(self, other: Ratio) -> bool
         ensures { result ≡ cheaper (pair_of self) (pair_of other) }
     {

@@ -8,5 +8,4 @@ returns-in_err-judgement g c =
 
 pub returns : goal.returns
 returns g c =
-    let s = c.args.self.now in
-    proof_closed g.F.Family.meaning s (g.met.F.Family.kept s.family) c.args.list.now c.in_ok-judgement.judgement c.close.new.self c.in_ok-judgement.ensures c.close.ensures
+    proof_closed g.F.Family.meaning c.args.self.now c.args.list.now c.in_ok-judgement.judgement c.close.new.self c.in_ok-judgement.ensures c.close.ensures
