@@ -30,21 +30,23 @@ const SQUARES_POINTS: [[i32; 3]; 4] = [[1, 3, 0], [2, 6, 0], [1, 0, 0], [2, 3, 3
 
 const LINEAR_POINTS: [[i32; 3]; 1] = [[1, 0, 4]];
 
-// A scale, three multipliers, and the row and side that are fixed, row 0 for none.
-const SQUARES_PROOFS: [([i32; 4], usize, Side); 5] = [
-    ([2, 0, 0, -3], 0, Side::Lower),
-    ([1, 3, 0, -3], 0, Side::Lower),
-    ([1, 3, 0, -3], 1, Side::Lower),
-    ([1, -3, 0, 0], 0, Side::Upper),
-    ([1, -3, 0, 0], 1, Side::Upper),
+/// A scale and three multipliers, and the index and the side of the row that is fixed, if one is, with what is printed of that.
+type OfferedProof = ([i32; 4], Option<(usize, Side, &'static str)>);
+
+const SQUARES_PROOFS: [OfferedProof; 5] = [
+    ([2, 0, 0, -3], None),
+    ([1, 3, 0, -3], None),
+    ([1, 3, 0, -3], Some((0, Side::Lower, "with row 1 lower "))),
+    ([1, -3, 0, 0], None),
+    ([1, -3, 0, 0], Some((0, Side::Upper, "with row 1 upper "))),
 ];
 
-const LINEAR_PROOFS: [([i32; 4], usize, Side); 5] = [
-    ([1, -1, 0, -1], 0, Side::Lower),
-    ([1, 0, 0, 0], 0, Side::Lower),
-    ([1, 0, 1, -2], 2, Side::Lower),
-    ([1, -2, -1, 0], 0, Side::Upper),
-    ([1, -2, -1, 0], 2, Side::Upper),
+const LINEAR_PROOFS: [OfferedProof; 5] = [
+    ([1, -1, 0, -1], None),
+    ([1, 0, 0, 0], None),
+    ([1, 0, 1, -2], Some((1, Side::Lower, "with row 2 lower "))),
+    ([1, -2, -1, 0], None),
+    ([1, -2, -1, 0], Some((1, Side::Upper, "with row 2 upper "))),
 ];
 
 // The sample problem as a draft of a cost.
@@ -73,9 +75,7 @@ fn judge_proof<F: Family>(family: &F, sides: Sides, list: &[i32]) -> Result<Judg
 
 fn show_fault(rt: &HostRuntime, fault: Fault) -> io::Result<()> {
     let denial = fault.denial();
-    let number = denial.number;
-    let place = denial.place;
-    println!(rt; "denied {number} {place}")
+    println!(rt; "{denial}")
 }
 
 fn show_point<F: Family>(rt: &HostRuntime, family: &F, point: [i32; 3]) -> io::Result<()> {
@@ -87,26 +87,16 @@ fn show_point<F: Family>(rt: &HostRuntime, family: &F, point: [i32; 3]) -> io::R
     }
 }
 
-// The sides with one row fixed, counted from 1, or none for row 0; and what is printed of that.
-fn fixed(row: usize, side: Side) -> (Sides, &'static str) {
-    match (row, side) {
-        (1, Side::Lower) => (Sides::all_free().fix(0, side), "with row 1 lower "),
-        (1, Side::Upper) => (Sides::all_free().fix(0, side), "with row 1 upper "),
-        (2, Side::Lower) => (Sides::all_free().fix(1, side), "with row 2 lower "),
-        (2, Side::Upper) => (Sides::all_free().fix(1, side), "with row 2 upper "),
-        _ => (Sides::all_free(), ""),
-    }
-}
-
 fn show_proof<F: Family>(
     rt: &HostRuntime,
     family: &F,
-    proof: [i32; 4],
-    row: usize,
-    side: Side,
+    (proof, fixed): OfferedProof,
 ) -> io::Result<()> {
     let [s, a, b, c] = proof;
-    let (sides, told) = fixed(row, side);
+    let (sides, told) = match fixed {
+        Some((row, side, told)) => (Sides::all_free().fix(row, side), told),
+        None => (Sides::all_free(), ""),
+    };
     print!(rt; "proof {s}; {a}, {b}, {c} {told}")?;
     let list = [s, a, b, c, 0, 0, 0, 0, 0, 0, 0, 0, 0, 0, 0, 0, 0];
     match judge_proof(family, sides, &list) {
@@ -122,13 +112,13 @@ fn show_family<F: Family>(
     rt: &HostRuntime,
     family: &F,
     points: &[[i32; 3]],
-    proofs: &[([i32; 4], usize, Side)],
+    proofs: &[OfferedProof],
 ) -> io::Result<()> {
     for point in points {
         show_point(rt, family, *point)?;
     }
-    for (proof, row, side) in proofs {
-        show_proof(rt, family, *proof, *row, *side)?;
+    for proof in proofs {
+        show_proof(rt, family, *proof)?;
     }
     Ok(())
 }
