@@ -1,5 +1,5 @@
 -- What a proof shows of a linear problem, and what the family means. Rates are counted by j < n.
-use Rattle.std.specs.Prelude.{ℕ, zero, suc, ◌+◌, cond, ℤ, pos, ◌*ℤ◌, neg_ℤ, Some, None, Ok, Err, Option, Result}
+use Rattle.std.specs.Prelude.{ℕ, ◌+◌, cond, ℤ, pos, ◌*ℤ◌, neg_ℤ, Some, None, Ok, Err, Option, Result}
 use Rattle.family.specs.declared.fault.ProofFault.{ProofFault}
 use Rattle.family.specs.declared.fault.ProofFault.TheVariants.{NotBalanced}
 use Rattle.family.specs.declared.judgement.Judgement.{Judgement}
@@ -10,13 +10,13 @@ use Rattle.family.specs.Meaning.{Meaning}
 use Rattle.family.specs.Numbers.{same}
 use Rattle.problem.specs.Programs.{Program}
 use Rattle.rows.specs.Rules.{Admitted, switch_at, position}
+use Rattle.rows.specs.Searches.{first_failing}
 use Rattle.rows.specs.Duals.{column_sum, level_of, is_void}
 use Rattle.linear.specs.Costs.{cost, price}
 
 -- the least of count places from j on at which two sequences differ
-unfoldable pub first_difference : (ℕ → ℤ) → (ℕ → ℤ) → ℕ → ℕ → Option ℕ
-first_difference f g j zero = None
-first_difference f g j (suc count) = cond (same (f j) (g j)) (first_difference f g (j + 1) count) (Some j)
+abbrev pub first_difference : (ℕ → ℤ) → (ℕ → ℤ) → ℕ → ℕ → Option ℕ
+first_difference f g = first_failing (λ j. same (f j) (g j))
 
 -- the column sum that balances the rate of column j at a scale
 abbrev pub balancing : ℕ → (ℕ → ℤ) → ℕ → ℤ

@@ -1,8 +1,7 @@
 -- The laws of the family of linear problems.
-use Rattle.std.specs.Prelude.{◌≡◌, ℕ, zero, suc, ◌+◌, ◌*◌, ◌<◌, ◌≤◌, Bool, true, false, cond, List, ℤ, pos, ◌-ℤ◌, ◌*ℤ◌, neg_ℤ, ◌≤ℤ◌, Some, None, Ok, Err, Option, unsigned_abs, refl}
+use Rattle.std.specs.Prelude.{◌≡◌, ℕ, zero, suc, ◌+◌, ◌*◌, ◌<◌, ◌≤◌, Bool, true, false, cond, List, ℤ, pos, ◌*ℤ◌, neg_ℤ, ◌≤ℤ◌, Some, None, Ok, Err, Option, unsigned_abs, refl}
 use Rattle.std.proofs.Common.{sym, ◌∙◌, ap, subst, arith}
 use Rattle.std.proofs.Math.IntN.{*ℤ_comm}
-use Rattle.std.specs.Int.{w64}
 use Rattle.std.proofs.lemmas.Int.{ints}
 use Rattle.sums.specs.Sums.{total, dot}
 use Rattle.sums.proofs.Ring.{diff_of, diff_same, as_diff, linear}
@@ -15,7 +14,7 @@ use Rattle.family.specs.Fractions.{Fraction, Fair, at_most}
 use Rattle.family.specs.Meaning.{Laws}
 use Rattle.family.specs.Numbers.{at, Small, same}
 use Rattle.family.specs.Points.{AnyPoint, AnyProof, OfferedPoint, OfferedProof}
-use Rattle.family.proofs.Casts.{back, product_near}
+use Rattle.family.proofs.Casts.{product_near}
 use Rattle.problem.specs.declared.table.Problem.{Problem}
 use Rattle.problem.specs.Programs.{Program, program}
 use Rattle.rows.specs.Duals.{column_sum, level_of, is_void}
@@ -24,30 +23,11 @@ use Rattle.rows.proofs.Admission.{same_is, admitted_freed, admitted_fixed, admit
 use Rattle.std.specs.Result.{result_and}
 use Rattle.rows.specs.Claims.{PlainMeaning}
 use Rattle.rows.proofs.Plainness.{admitted_keeps, keeps_admitted, admitted_same, admission_same, void_same, level_same}
+use Rattle.rows.proofs.Searches.{failing_none, failing_inside}
 use Rattle.rows.proofs.Sizes.{level_near, sum_near}
 use Rattle.rows.proofs.Voids.{holds, switch_inside, void_none, price_taken, price_given, price_row}
-use Rattle.linear.specs.Bounds.{first_difference, balancing, off_balance, bound, balanced, judgement, meaning_of}
+use Rattle.linear.specs.Bounds.{balancing, off_balance, bound, balanced, judgement, meaning_of}
 use Rattle.linear.specs.Costs.{cost}
-use Rattle.linear.specs.Balances.{difference_none, difference_inside, difference_same}
-
--- ---- the judgement of a proof
-module _ (P : Program) (rates : ℕ → ℤ) (s : ℕ → Option Side) (scale : ℕ) (y : ℕ → ℤ) where
-  pub judged_void : is_void P s y ≡ true → Ok Void ≡ judgement P rates s scale y
-  judged_void e = sym (ap (λ b. cond b (Ok Void) (balanced (off_balance P rates scale y) (bound P s scale y))) e)
-
-  pub judged_off : {o : Option ℕ} {b : Fraction} → is_void P s y ≡ false → o ≡ off_balance P rates scale y → b ≡ bound P s scale y → balanced o b ≡ judgement P rates s scale y
-  judged_off e same_o same_b = (λ i. balanced (same_o i) (same_b i)) ∙ sym (ap (λ b. cond b (Ok Void) (balanced (off_balance P rates scale y) (bound P s scale y))) e)
-
-  -- the sums that the code holds
-  pub off_read : (sums : List ℤ) {o : Option ℕ} → ((j : ℕ) → j < P.n → at sums j ≡ column_sum P y j) → o ≡ first_difference (at sums) (balancing scale rates) 0 P.n → o ≡ off_balance P rates scale y
-  off_read sums columns e = e ∙ difference_same (at sums) (column_sum P y) (balancing scale rates) 0 P.n (λ k h. columns k (omega arith))
-
--- `-level` at 64 bits
-pub minus_read : {l z : ℤ} → l ≡ z → unsigned_abs z ≤ 160000000 → back w64 (pos 0 -ℤ l) ≡ neg_ℤ z
-minus_read {l} {z} e h = ap (λ l. back w64 (pos 0 -ℤ l)) e ∙ minus z h
-  where
-    minus : (z : ℤ) → unsigned_abs z ≤ 160000000 → back w64 (pos 0 -ℤ z) ≡ neg_ℤ z
-    minus z h = omega (arith, ints)
 
 -- ---- what a judgement tells
 void_only : (b : Bool) (o : Option ℕ) (f : Fraction) → cond b (Ok Void) (balanced o f) ≡ Ok Void → b ≡ true
@@ -85,7 +65,7 @@ bounded : (P : Program) (rates : ℕ → ℤ) (s : ℕ → Option Side) (scale :
 bounded P rates s scale y x none a =
     let balance : (j : ℕ) → j < P.n → column_sum P y j ≡ balancing scale rates j =
     λ j h. same_is (column_sum P y j) (balancing scale rates j)
-    (let q : 0 + j ≡ j = omega arith in subst (λ k. same (column_sum P y k) (balancing scale rates k) ≡ true) q (difference_none (column_sum P y) (balancing scale rates) 0 P.n none j h)) in
+    (let q : 0 + j ≡ j = omega arith in subst (λ k. same (column_sum P y k) (balancing scale rates k) ≡ true) q (failing_none (λ j. same (column_sum P y j) (balancing scale rates j)) 0 P.n none j h)) in
     let sums : dot P.n (column_sum P y) x.p ≡ neg_ℤ (pos scale *ℤ dot P.n rates x.p) =
     total_same P.n (λ j. column_sum P y j *ℤ x.p j) (λ j. neg_ℤ (pos scale *ℤ (rates j *ℤ x.p j))) (λ j h. ap (λ t. t *ℤ x.p j) (balance j h) ∙ regroup scale (rates j) (x.p j))
     ∙ total_neg P.n (λ j. pos scale *ℤ (rates j *ℤ x.p j))
@@ -147,7 +127,7 @@ laws p rates small =
       stopped = λ s x r o e. price_row P s x (cost P c x) r e;
       unbalanced = λ s y j o e.
           let t = column_only (is_void P s y.y) (off_balance P c y.s y.y) (bound P s y.s y.y) j e in
-          (omega (arith, t.2), omega (arith, t.2, difference_inside (column_sum P y.y) (balancing y.s c) 0 P.n t.0 t.1));
+          (omega (arith, t.2), omega (arith, t.2, failing_inside (λ j. same (column_sum P y.y j) (balancing y.s c j)) 0 P.n t.0 t.1));
     }
 
 -- ---- the meaning is plain

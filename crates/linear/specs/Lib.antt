@@ -1,4 +1,3 @@
 pub mod Costs
 pub mod Bounds
 pub mod Laws
-pub mod Balances

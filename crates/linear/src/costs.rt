@@ -12,6 +12,7 @@ use family::gap::Gap;
 use family::point::Point;
 use problem::cost::Linear;
 use problem::draft::Draft;
+use rows::products::dot;
 
 impl LinearCosts {
     /// Uses up a draft and gives its problem with its rates, and its gap, as they stand. What the family means is
@@ -20,7 +21,7 @@ impl LinearCosts {
         ensures problem { result.0.problem ≡ draft.problem }
         ensures rates { result.0.rates ≡ draft.rates }
         ensures gap { result.1 ≡ draft.gap }
-        ensures plain { PlainMeaning (meaning_of (program result.0.problem) (at result.0.rates.rates)) (program draft.problem) }
+        ensures plain { PlainMeaning (meaning_of (program result.0.problem) (at result.0.rates.numbers)) (program draft.problem) }
     {
         let (problem, rates, gap) = draft.into_parts();
         (LinearCosts { problem, rates }, gap)
@@ -28,19 +29,19 @@ impl LinearCosts {
 
     // The sum of rate times numerator.
     fn rated_sum(&self, point: &Point) -> i64
-        ensures value { result ≡ rated_sum (program self.now.problem) (at self.now.rates.rates) (any_point point.now) }
+        ensures value { result ≡ rated_sum (program self.now.problem) (at self.now.rates.numbers) (any_point point.now) }
         ensures near { unsigned_abs result ≤ 400000000 }
     {
-        let mut sum = 0;
-        for column in 0..self.problem.quantities() {
-            sum += self.rates.rate(column) * point.numerator(column);
-        }
-        sum
+        dot::<50, 1_000_000, _, _>(
+            self.problem.quantities(),
+            |column| self.rates.rate(column),
+            |column| point.numerator(column),
+        )
     }
 
     // The cost of a point: the sum of rate times quantity.
     pub(crate) fn cost(&self, point: &Point) -> (i64, i64)
-        ensures { result ≡ cost (program self.now.problem) (at self.now.rates.rates) (any_point point.now) }
+        ensures { result ≡ cost (program self.now.problem) (at self.now.rates.numbers) (any_point point.now) }
     {
         (self.rated_sum(point), point.denominator())
     }

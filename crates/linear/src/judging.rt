@@ -1,6 +1,6 @@
 // The interface of the family.
-ghost use Rattle.std.specs.Prelude.{◌≡◌, ℕ, ◌<◌, ◌≤◌, ℤ, ◌*ℤ◌, neg_ℤ, IfSome, unsigned_abs};
-ghost use Rattle.family.specs.Numbers.{at, same};
+ghost use Rattle.std.specs.Prelude.{◌≡◌, ℕ, ◌<◌, ◌≤◌, ℤ, IfSome, unsigned_abs};
+ghost use Rattle.family.specs.Numbers.{at};
 ghost use Rattle.family.specs.Points.{denominator_of};
 ghost use Rattle.problem.specs.Programs.{program};
 ghost use Rattle.linear.specs.Bounds.{first_difference, balancing, meaning_of};
@@ -15,45 +15,31 @@ use family::position::Position;
 use family::proof::Proof;
 use family::sides::Sides;
 use rows::column_sums::ColumnSums;
-use rows::duals;
-
-// The column sum that balances a rate at a scale.
-fn wanted(scale: i64, rate: i64) -> i64
-    requires scale { unsigned_abs scale ≤ 1000 }
-    requires rate { unsigned_abs rate ≤ 50 }
-    ensures value { result ≡ neg_ℤ (scale *ℤ rate) }
-    ensures near { unsigned_abs result ≤ 50000 }
-{
-    -(scale * rate)
-}
-
-// Whether two numbers are equal.
-fn equal(a: i64, b: i64) -> bool
-    ensures { result ≡ same a b }
-{
-    a == b
-}
+use rows::restriction::Restriction;
 
 impl LinearCosts {
+    // The sum that balances the rate of a column.
+    fn balancing(&self, proof: &Proof, column: usize) -> i64
+        ensures value { result ≡ balancing (denominator_of proof.now) (at self.now.rates.numbers) column }
+        ensures near { unsigned_abs result ≤ 50000 }
+    {
+        -(proof.denominator() * self.rates.rate(column))
+    }
+
     // The index of the first column that does not balance; None where all do.
     fn off_balance(&self, proof: &Proof, columns: &ColumnSums) -> Option<usize>
-        ensures least { result ≡ first_difference (at columns.now.sums) (balancing (denominator_of proof.now) (at self.now.rates.rates)) 0 (program self.now.problem).n }
+        ensures least { result ≡ first_difference (at columns.now.sums) (balancing (denominator_of proof.now) (at self.now.rates.numbers)) 0 (program self.now.problem).n }
         ensures few { IfSome result (λ j. j < 8) }
     {
-        let scale = proof.denominator();
-        for column in 0..self.problem.quantities() {
-            if !equal(columns.sum(column), wanted(scale, self.rates.rate(column))) {
-                return Some(column);
-            }
-        }
-        None
+        (0..self.problem.quantities()).find(|&column| columns.sum(column)
+            != self.balancing(proof, column))
     }
 }
 
 impl Family for LinearCosts {
-    ghost meaning = { λ f. meaning_of (program f.problem) (at f.rates.rates) };
+    ghost meaning = { λ f. meaning_of (program f.problem) (at f.rates.numbers) };
 
-    ghost kept = { λ f. laws f.problem f.rates.rates f.rates.small };
+    ghost kept = { λ f. laws f.problem f.rates.numbers f.rates.small };
 
     fn size(&self) -> (usize, usize) {
         rows::size(&self.problem)
@@ -64,18 +50,25 @@ impl Family for LinearCosts {
     }
 
     fn judge_point(&self, sides: Sides, point: &Point) -> Result<(i64, i64), PointFault> {
-        rows::admit(&self.problem, sides, point)?;
+        let restriction = Restriction {
+            problem: &self.problem,
+            sides,
+        };
+        restriction.admit(point)?;
         Ok(self.cost(point))
     }
 
     fn judge_proof(&self, sides: Sides, proof: &Proof) -> Result<Judgement, ProofFault> {
-        let columns = duals::column_sums(&self.problem, proof);
-        let level = duals::level(&self.problem, sides, proof);
-        if duals::is_void(&columns, level) {
+        let restriction = Restriction {
+            problem: &self.problem,
+            sides,
+        };
+        let Some(duals) = restriction.duals(proof) else {
             return Ok(Judgement::Void);
-        }
-        match self.off_balance(proof, &columns) {
-            None => Ok(Judgement::Bound((-level, proof.denominator()))),
+        };
+        // A match: None is the good case here, which `map_or` would hide.
+        match self.off_balance(proof, &duals.columns) {
+            None => Ok(Judgement::Bound((-duals.level, proof.denominator()))),
             Some(index) => Err(ProofFault::NotBalanced { column: index + 1 }),
         }
     }

@@ -12,6 +12,10 @@ use Rattle.rows.specs.Rules.{Admitted, switch_at, position}
 use Rattle.rows.specs.Duals.{column_sum, level_of, is_void}
 use Rattle.squares.specs.Costs.{cost, price}
 
+-- the bound that column sums of eight columns and a level give at a scale
+abbrev pub bound_of : ℕ → (ℕ → ℤ) → ℤ → Fraction
+bound_of scale sums level = (neg_ℤ (dot 8 sums sums +ℤ (pos 2 *ℤ pos scale) *ℤ level), pos scale *ℤ pos scale)
+
 -- the bound of multipliers y at a scale: -(sum of S_j squared + 2 times scale times L) over the scale squared
 abbrev pub bound : Program → (ℕ → Option Side) → ℕ → (ℕ → ℤ) → Fraction
 bound P s scale y =

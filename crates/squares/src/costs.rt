@@ -11,6 +11,7 @@ use family::gap::Gap;
 use family::point::Point;
 use problem::cost::Squares;
 use problem::draft::Draft;
+use rows::products::dot;
 
 impl LeastSquares {
     /// Uses up a draft and gives its problem and its gap, as they stand. What the family means is plain: a point is
@@ -29,12 +30,8 @@ impl LeastSquares {
         ensures value { result ≡ square_sum (program self.now.problem) (any_point point.now) }
         ensures near { unsigned_abs result ≤ 8000000000000 }
     {
-        let mut sum = 0;
-        for column in 0..self.problem.quantities() {
-            let p = point.numerator(column);
-            sum += p * p;
-        }
-        sum
+        let numerator = |column| point.numerator(column);
+        dot::<1_000_000, 1_000_000, _, _>(self.problem.quantities(), numerator, numerator)
     }
 
     // The cost of a point: the sum of squares of its quantities.

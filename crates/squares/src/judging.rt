@@ -1,7 +1,9 @@
 // The interface of the family.
-ghost use Rattle.std.specs.Prelude.{◌≡◌, ℕ, ◌≤◌, ℤ, pos, ◌+ℤ◌, ◌*ℤ◌, neg_ℤ, unsigned_abs};
+ghost use Rattle.std.specs.Prelude.{◌≡◌};
+ghost use Rattle.family.specs.Numbers.{at};
+ghost use Rattle.family.specs.Points.{denominator_of};
 ghost use Rattle.problem.specs.Programs.{program};
-ghost use Rattle.squares.specs.Bounds.{meaning_of};
+ghost use Rattle.squares.specs.Bounds.{bound_of, meaning_of};
 ghost use Rattle.squares.specs.Laws.{laws};
 
 use crate::least_squares::LeastSquares;
@@ -12,18 +14,21 @@ use family::point::Point;
 use family::position::Position;
 use family::proof::Proof;
 use family::sides::Sides;
-use rows::duals;
+use rows::duals::Duals;
+use rows::restriction::Restriction;
 
-// The bound that a sum of squared column sums and a level give at a scale.
-fn bound(scale: i64, squares: i64, level: i64) -> (i64, i64)
-    requires scale { unsigned_abs scale ≤ 1000 }
-    requires squares { unsigned_abs squares ≤ 5120000000000 }
-    requires level { unsigned_abs level ≤ 160000000 }
-    ensures { result ≡ (neg_ℤ (squares +ℤ (pos 2 *ℤ scale) *ℤ level), scale *ℤ scale) }
+// The bound that a proof's dual quantities give at its scale.
+fn bound(proof: &Proof, duals: &Duals) -> (i64, i64)
+    ensures { result ≡ bound_of (denominator_of proof.now) (at duals.now.columns.sums) duals.now.level }
 {
-    (-(squares + 2 * scale * level), scale * scale)
+    let scale = proof.denominator();
+    (
+        -(duals.columns.square_sum() + 2 * scale * duals.level),
+        scale * scale,
+    )
 }
 
+// Each family implements the interface itself, by a rule of the project; the four calls into `rows` are alike in both.
 impl Family for LeastSquares {
     ghost meaning = { λ f. meaning_of (program f.problem) };
 
@@ -38,17 +43,24 @@ impl Family for LeastSquares {
     }
 
     fn judge_point(&self, sides: Sides, point: &Point) -> Result<(i64, i64), PointFault> {
-        rows::admit(&self.problem, sides, point)?;
+        let restriction = Restriction {
+            problem: &self.problem,
+            sides,
+        };
+        restriction.admit(point)?;
         Ok(self.cost(point))
     }
 
     fn judge_proof(&self, sides: Sides, proof: &Proof) -> Result<Judgement, ProofFault> {
-        let columns = duals::column_sums(&self.problem, proof);
-        let level = duals::level(&self.problem, sides, proof);
-        if duals::is_void(&columns, level) {
-            return Ok(Judgement::Void);
-        }
-        Ok(Judgement::Bound(bound(proof.denominator(), columns.square_sum(), level)))
+        let restriction = Restriction {
+            problem: &self.problem,
+            sides,
+        };
+        let judgement = restriction.duals(proof).map_or(
+            Judgement::Void,
+            |duals| Judgement::Bound(bound(proof, &duals)),
+        );
+        Ok(judgement)
     }
 
     fn position(&self, row: usize, point: &Point) -> Position {

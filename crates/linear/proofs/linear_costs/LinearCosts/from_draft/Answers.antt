@@ -7,10 +7,8 @@ use Rattle.linear.specs.Bounds.{meaning_of}
 use Rattle.linear.specs.Laws.{plain}
 use Rattle.linear.proofs.linear_costs.LinearCosts.from_draft.Goals as goal
 
-pub returns : goal.returns
-returns c = record {
-  problem = c.into_parts.ensures.problem;
-  rates = c.into_parts.ensures.rates;
-  gap = c.into_parts.ensures.gap;
-  plain = subst (λ (p : Problem). PlainMeaning (meaning_of (program c.into_parts.result.0) (at c.into_parts.result.1.rates)) (program p)) c.into_parts.ensures.problem (plain (program c.into_parts.result.0) (at c.into_parts.result.1.rates));
-}
+pub returns-clause-plain : goal.returns-clause-plain
+returns-clause-plain c =
+    let p = c.into_parts.result.0 in
+    let rates = at c.into_parts.result.1.numbers in
+    subst (λ (q : Problem). PlainMeaning (meaning_of (program p) rates) (program q)) c.into_parts.ensures.problem (plain (program p) rates)

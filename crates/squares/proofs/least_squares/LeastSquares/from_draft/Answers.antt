@@ -6,9 +6,7 @@ use Rattle.squares.specs.Bounds.{meaning_of}
 use Rattle.squares.specs.Laws.{plain}
 use Rattle.squares.proofs.least_squares.LeastSquares.from_draft.Goals as goal
 
-pub returns : goal.returns
-returns c = record {
-  problem = c.into_parts.ensures.problem;
-  gap = c.into_parts.ensures.gap;
-  plain = subst (λ (p : Problem). PlainMeaning (meaning_of (program c.into_parts.result.0)) (program p)) c.into_parts.ensures.problem (plain (program c.into_parts.result.0));
-}
+pub returns-clause-plain : goal.returns-clause-plain
+returns-clause-plain c =
+    let p = c.into_parts.result.0 in
+    subst (λ (q : Problem). PlainMeaning (meaning_of (program p)) (program q)) c.into_parts.ensures.problem (plain (program p))
