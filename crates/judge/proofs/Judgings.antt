@@ -9,7 +9,7 @@ use Rattle.family.specs.Reading.{gap_value}
 use Rattle.problem.specs.declared.cost.Linear.{Linear}
 use Rattle.problem.specs.declared.cost.Squares.{Squares}
 use Rattle.problem.specs.declared.draft.Draft.{Draft}
-use Rattle.problem.specs.declared.rates.Rates.{Rates}
+use Rattle.problem.specs.declared.coefficients.Coefficients.{Coefficients as Rates}
 use Rattle.problem.specs.declared.table.Problem.{Problem}
 use Rattle.problem.specs.Calls.{data_of}
 use Rattle.problem.specs.Programs.{program}
@@ -59,13 +59,13 @@ squares_judged r draft calls p gap j e is_p is_gap plain h =
     })
 
 pub linear_judged : (r : Result (AnyData × List Call) FileFault) (draft : Draft Linear) (calls : List Call) (p : Problem) (rates : Rates) (gap : Gap) (j : Judged)
-    → Ok (linear (data_of draft), calls) ≡ r → p ≡ draft.problem → rates ≡ draft.rates → gap ≡ draft.gap → PlainMeaning (linear_meaning (program p) (at rates.rates)) (program draft.problem)
-    → JudgedBy (linear_meaning (program p) (at rates.rates)) (gap_value gap) calls j → IsOkAnd r (λ y. JudgedAs y j)
+    → Ok (linear (data_of draft), calls) ≡ r → p ≡ draft.problem → rates ≡ draft.rates → gap ≡ draft.gap → PlainMeaning (linear_meaning (program p) (at rates.numbers)) (program draft.problem)
+    → JudgedBy (linear_meaning (program p) (at rates.numbers)) (gap_value gap) calls j → IsOkAnd r (λ y. JudgedAs y j)
 linear_judged r draft calls p rates gap j e is_p is_rates is_gap plain h =
     of_file r (linear (data_of draft), calls) j e (record {
-      judged = subst (λ (q : Problem). JudgedBy (linear_meaning (program q) (at draft.rates.rates)) (gap_value draft.gap) calls j) is_p
-          (subst (λ (z : Rates). JudgedBy (linear_meaning (program p) (at z.rates)) (gap_value draft.gap) calls j) is_rates
-          (subst (λ (k : Gap). JudgedBy (linear_meaning (program p) (at rates.rates)) (gap_value k) calls j) is_gap h));
-      plain = subst (λ (q : Problem). PlainMeaning (linear_meaning (program q) (at draft.rates.rates)) (program draft.problem)) is_p
-          (subst (λ (z : Rates). PlainMeaning (linear_meaning (program p) (at z.rates)) (program draft.problem)) is_rates plain);
+      judged = subst (λ (q : Problem). JudgedBy (linear_meaning (program q) (at draft.rates.numbers)) (gap_value draft.gap) calls j) is_p
+          (subst (λ (z : Rates). JudgedBy (linear_meaning (program p) (at z.numbers)) (gap_value draft.gap) calls j) is_rates
+          (subst (λ (k : Gap). JudgedBy (linear_meaning (program p) (at rates.numbers)) (gap_value k) calls j) is_gap h));
+      plain = subst (λ (q : Problem). PlainMeaning (linear_meaning (program q) (at draft.rates.numbers)) (program draft.problem)) is_p
+          (subst (λ (z : Rates). PlainMeaning (linear_meaning (program p) (at z.numbers)) (program draft.problem)) is_rates plain);
     })

@@ -27,8 +27,10 @@ pub(crate) fn offers_of<'a>(calls: &'a [Call]) -> [Offer<'a>; LARGEST]
     ensures { calls_in (take (length calls.now) result) ≡ calls_made calls.now }
 {
     let mut offers = [Offer::Split { row: 0, side: 0 }; LARGEST];
-    for (offer, call) in offers.iter_mut().zip(calls) {
-        *offer = offer_of(call);
+    // No zip of the two, nor `array::from_fn`: the proof did not close, as nothing is known of what a loop writes through a zip, nor
+    // that the closure of `from_fn` holds the same calls at each turn.
+    for (index, call) in calls.iter().enumerate() {
+        offers[index] = offer_of(call);
     }
     offers
 }

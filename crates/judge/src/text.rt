@@ -36,7 +36,11 @@ impl fmt::Display for Outcome {
             Ok(Accepted::Taken(cost)) => write!(f, "taken {}", Fraction(cost)),
             Ok(Accepted::Kept(cost)) => write!(f, "kept {}", Fraction(cost)),
             Ok(Accepted::Closed(Judgement::Void)) => write!(f, "closed void"),
-            Ok(Accepted::Closed(Judgement::Bound(bound))) => write!(f, "closed {}", Fraction(bound)),
+            Ok(Accepted::Closed(Judgement::Bound(bound))) => write!(
+                f,
+                "closed {}",
+                Fraction(bound)
+            ),
             Ok(Accepted::Split) => write!(f, "done"),
             Err(fault) => write!(f, "{}", fault.denial()),
         }

@@ -10,5 +10,5 @@ returns g c =
     record {
       quantities = c.size-quantities.ensures.quantities;
       same = refl;
-      ran = ran_front (g.F.Family.meaning c.args.family) (gap_value c.args.gap) (calls_of c.args.calls) _ c.in-Ok.end.report c.in-Ok.end.point c.run.new.outcomes _ (c.offers_of-offers.ensures ∙ ap calls_made c.as_slice-list.ensures) c.in-Ok.ensures.ran;
+      ran = ran_front (g.F.Family.meaning c.args.family) (gap_value c.args.gap) (calls_of c.args.calls) _ c.in-Ok.end.report c.in-Ok.end.point c.run.new.outcomes _ (c.offers_of-offers.ensures ∙ ap calls_made c.as_slice-list.ensures.value) c.in-Ok.ensures.ran;
     }
