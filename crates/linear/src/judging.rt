@@ -66,6 +66,7 @@ impl Family for LinearCosts {
         let Some(duals) = restriction.duals(proof) else {
             return Ok(Judgement::Void);
         };
+        // A match: None is the good case here, which `map_or` would hide.
         match self.off_balance(proof, &duals.columns) {
             None => Ok(Judgement::Bound((-duals.level, proof.scale()))),
             Some(index) => Err(ProofFault::NotBalanced { column: index + 1 }),
