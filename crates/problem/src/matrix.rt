@@ -6,6 +6,7 @@ mod cells;
 /// Sixteen rows of eight coefficients; row r, column j stands at 8r + j, both counted from 0.
 #[derive(Drop)]
 pub struct Matrix {
+    // Flat, by the rule for the matrix.
     cells: [i32; 128],
     ghost small: { Small 50 cells },
 }

@@ -10,11 +10,11 @@ mod growing;
 mod listing;
 mod reading;
 
-/// n quantities and m rows. What is not in use of the table and the matrix is blank. The table has room for every row,
-/// and m counts those in use: a problem keeps to fixed memory.
+/// n quantities and m rows. What is not in use of the table and the matrix is blank.
 #[derive(Drop)]
 pub struct Problem {
     n: usize,
+    // A count beside a table with room for every row, by the rule that a draft keeps a table of rows in fixed memory.
     m: usize,
     rows: [Row; ROWS],
     matrix: Matrix,

@@ -1,5 +1,5 @@
 -- How large the dual quantities of an offered proof can be.
-use Rattle.std.proofs.Common.{ℕ, zero, suc, ◌*◌, ◌≤◌, List, [], ◌∷◌, map, Bool, true, false, cond, ℤ, pos, ◌*ℤ◌, nat_abs, Some, None, Option, arith}
+use Rattle.std.proofs.Common.{ℕ, ◌*◌, ◌≤◌, Bool, true, false, cond, ℤ, pos, ◌*ℤ◌, nat_abs, Some, None, Option, arith}
 use lib.Signed.{lt_z}
 use Rattle.std.proofs.lemmas.Nat.{mul-le}
 use Rattle.family.specs.declared.side.Side.{Side}
@@ -8,24 +8,14 @@ use Rattle.family.specs.Points.{AnyProof, OfferedProof}
 use Rattle.family.proofs.Casts.{product_near}
 use Rattle.problem.specs.declared.kind.Kind.{Kind}
 use Rattle.problem.specs.declared.kind.Kind.TheVariants.{Plain, Switch}
-use Rattle.problem.specs.declared.row.Row.{Row}
 use Rattle.problem.specs.declared.table.Problem.{Problem}
 use Rattle.problem.specs.Programs.{program}
-use Rattle.problem.specs.Tables.{row_data, row_at}
 use Rattle.problem.proofs.Cells.{cell_near}
+use Rattle.problem.proofs.Rows.{ends_of}
 use Rattle.sums.specs.Sums.{total}
 use Rattle.sums.proofs.Totals.{total_near}
 use Rattle.rows.specs.Rules.{fixed_end, low_end, high_end}
 use Rattle.rows.specs.Duals.{column_sum, met_end, level_of}
-
--- the ends of a row are small
-small_ends : (rows : List Row) (i : ℕ) → (nat_abs (row_at (map row_data rows) i).lo ≤ 10000) × (nat_abs (row_at (map row_data rows) i).hi ≤ 10000)
-small_ends [] i = (omega arith, omega arith)
-small_ends (r ∷ rows) zero = (r.low, r.high)
-small_ends (r ∷ rows) (suc i) = small_ends rows i
-
-pub ends_near : (p : Problem) (i : ℕ) → (nat_abs ((program p).lo i) ≤ 10000) × (nat_abs ((program p).hi i) ≤ 10000)
-ends_near p i = small_ends p.rows i
 
 cond_near : (b : ℕ) (t : Bool) (x y : ℤ) → nat_abs x ≤ b → nat_abs y ≤ b → nat_abs (cond t x y) ≤ b
 cond_near b true x y h k = h
@@ -42,9 +32,9 @@ end_near Switch (Some Upper) lo hi free a b c = b
 
 met_near : (p : Problem) (s : ℕ → Option Side) (y : ℕ → ℤ) (i : ℕ) → nat_abs (met_end (program p) s y i) ≤ 10000
 met_near p s y i =
-    let e = ends_near p i in
+    let e = ends_of p.rows i in
     cond_near 10000 (lt_z (pos 0) (y i)) (high_end (program p) s i) (low_end (program p) s i)
-    (end_near ((program p).kind i) (s i) _ _ _ e.0 e.1 e.1) (end_near ((program p).kind i) (s i) _ _ _ e.0 e.1 e.0)
+    (end_near ((program p).kind i) (s i) _ _ _ e.low e.high e.high) (end_near ((program p).kind i) (s i) _ _ _ e.low e.high e.low)
 
 rows_near : (m b : ℕ) (z : ℤ) → m ≤ 16 → nat_abs z ≤ m * b → nat_abs z ≤ 16 * b
 rows_near m b z h k = let same : b ≤ b = omega arith in omega (arith, mul-le m b 16 b h same)

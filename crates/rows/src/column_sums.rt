@@ -1,11 +1,17 @@
 // The column sums of a proof.
 ghost use Rattle.std.specs.Prelude.{◌≡◌, ℕ, ◌≤◌, ℤ, unsigned_abs};
 ghost use Rattle.family.specs.Numbers.{at, Small};
+ghost use Rattle.family.specs.Points.{numerator_of};
+ghost use Rattle.problem.specs.Programs.{program};
 ghost use Rattle.sums.specs.Sums.{dot};
+ghost use Rattle.rows.specs.Duals.{column_sum};
 ghost use Rattle.rows.specs.Zeros.{all_zero};
 
 use crate::products::dot;
+use family::proof::Proof;
 use family::sizes::QUANTITIES;
+use problem::table::Problem;
+use std::array;
 
 /// The sums of all eight columns; those of columns that are not in use are 0.
 #[derive(Clone, Copy)]
@@ -14,7 +20,28 @@ pub struct ColumnSums {
     ghost near: { Small 800000 sums },
 }
 
+// The sum over the rows of coefficient times multiplier in one column.
+fn column_sum(problem: &Problem, proof: &Proof, column: usize) -> i64
+    ensures value { result ≡ column_sum (program problem.now) (numerator_of proof.now) column }
+    ensures near { unsigned_abs result ≤ 800000 }
+{
+    dot::<50, 1_000, _, _>(
+        problem.row_count(),
+        |row| problem.coefficient(row, column),
+        |row| proof.numerator(row),
+    )
+}
+
 impl ColumnSums {
+    /// The column sums of a proof.
+    pub fn of(problem: &Problem, proof: &Proof) -> ColumnSums
+        ensures { (j : ℕ) → at result.sums j ≡ column_sum (program problem.now) (numerator_of proof.now) j }
+    {
+        ColumnSums {
+            sums: array::from_fn(|column| column_sum(problem, proof, column)),
+        }
+    }
+
     /// The sum of the column with this index, 0 beyond the eight.
     pub fn sum(&self, column: usize) -> i64
         ensures value { result ≡ at self.now.sums column }

@@ -19,6 +19,7 @@ pub fn dot<const LEFT: u64, const RIGHT: u64, F: Fn(usize) -> i64, G: Fn(usize) 
     ensures value { (f g : ℕ → ℤ) → ((k : ℕ) (x : ℤ) → k < count → F.post left k x → x ≡ f k) → ((k : ℕ) (x : ℤ) → k < count → G.post right k x → x ≡ g k) → result ≡ dot count f g }
     ensures near { unsigned_abs result ≤ LEFT * RIGHT * count }
 {
+    // A loop: that the sum of a chain fits is proved for numbers without a sign alone.
     let mut sum = 0;
     for index in 0..count {
         sum += left(index) * right(index);

@@ -72,6 +72,7 @@ impl Standing {
     pub(crate) fn settled(self, side: Option<Side>) -> bool
         ensures { result ≡ settled self.value self.low self.high side }
     {
+        // A match: `map_or_else` with two closures is no plainer.
         match side {
             None => self.stands(Side::Lower) || self.stands(Side::Upper),
             Some(side) => self.stands(side),

@@ -27,6 +27,7 @@ impl Header {
     {
         let rates = rates_in_use(rated, list);
         Shape::Header { rates }.judge(list)?;
+        // A slice pattern after the test of the length, by the rule for lists.
         let [n, gap, rates @ ..] = list else {
             return Err(ListFault::Length);
         };

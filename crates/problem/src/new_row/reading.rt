@@ -16,6 +16,7 @@ impl NewRow {
     {
         let shape = Shape::Row { quantities: n };
         shape.judge_length(list)?;
+        // A slice pattern after the test of the length, by the rule for lists.
         let [kind, lo, hi, rest @ ..] = list else {
             return Err(ListFault::Length);
         };

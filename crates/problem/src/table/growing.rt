@@ -44,6 +44,7 @@ impl Problem {
         if self.m >= ROWS {
             return Err(StateFault::Full);
         }
+        // One row is lent and written, by the rule for the table; of `get_mut` it is not known that it leaves the other rows.
         let rows = &mut self.rows;
         let row = &mut rows[self.m];
         *row = new.row;

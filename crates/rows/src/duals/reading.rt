@@ -1,10 +1,10 @@
 // From a proof to its dual quantities.
-ghost use Rattle.std.specs.Prelude.{◌≡◌, ℕ, ◌≤◌, ◌&&◌, true, ℤ, pos, int_lt, MatchOption, unsigned_abs};
+ghost use Rattle.std.specs.Prelude.{◌≡◌, ◌≤◌, ◌&&◌, true, pos, int_lt, MatchOption, unsigned_abs};
 ghost use Rattle.family.specs.Numbers.{at};
 ghost use Rattle.family.specs.Points.{numerator_of};
 ghost use Rattle.family.specs.Reading.{side_of};
 ghost use Rattle.problem.specs.Programs.{program};
-ghost use Rattle.rows.specs.Duals.{column_sum, met_end, level_of, is_void};
+ghost use Rattle.rows.specs.Duals.{met_end, level_of, is_void};
 ghost use Rattle.rows.specs.Zeros.{all_zero};
 ghost use Rattle.rows.specs.Readings.{HasDuals};
 
@@ -13,29 +13,6 @@ use crate::duals::Duals;
 use crate::products::dot;
 use crate::restriction::Restriction;
 use family::proof::Proof;
-use problem::table::Problem;
-use std::array;
-
-// The sum over the rows of coefficient times multiplier in one column.
-fn column_sum(problem: &Problem, proof: &Proof, column: usize) -> i64
-    ensures value { result ≡ column_sum (program problem.now) (numerator_of proof.now) column }
-    ensures near { unsigned_abs result ≤ 800000 }
-{
-    dot::<50, 1_000, _, _>(
-        problem.row_count(),
-        |row| problem.coefficient(row, column),
-        |row| proof.numerator(row),
-    )
-}
-
-/// The sums of all columns.
-pub fn column_sums(problem: &Problem, proof: &Proof) -> ColumnSums
-    ensures { (j : ℕ) → at result.sums j ≡ column_sum (program problem.now) (numerator_of proof.now) j }
-{
-    ColumnSums {
-        sums: array::from_fn(|column| column_sum(problem, proof, column)),
-    }
-}
 
 impl Restriction<'_> {
     // The end of a row that its multiplier meets: the upper one where the multiplier is positive.
@@ -64,7 +41,7 @@ impl Restriction<'_> {
         ensures { MatchOption result (is_void (program self.now.problem.now) (side_of self.now.sides) (numerator_of proof.now) ≡ true) (HasDuals (program self.now.problem.now) (side_of self.now.sides) (numerator_of proof.now)) }
     {
         let duals = Duals {
-            columns: column_sums(self.problem, proof),
+            columns: ColumnSums::of(self.problem, proof),
             level: self.level(proof),
         };
         if duals.is_void() { None } else { Some(duals) }

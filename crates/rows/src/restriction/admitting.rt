@@ -37,6 +37,7 @@ impl Restriction<'_> {
     pub fn admit(&self, point: &Point) -> Result<(), PointFault>
         ensures { result ≡ admission (program self.now.problem.now) (side_of self.now.sides) (any_point point.now) }
     {
+        // A match: None is the good case here, which `map_or` would hide.
         match self.stopper(point) {
             None => Ok(()),
             Some(index) => Err(PointFault::NotAdmitted { row: index + 1 }),

@@ -4,7 +4,7 @@ use Rattle.family.specs.Points.{numerator_of}
 use Rattle.problem.specs.Programs.{program}
 use Rattle.rows.specs.Duals.{column_sum}
 use Rattle.rows.proofs.Columns.{columns_read, columns_near}
-use Rattle.rows.proofs.duals.reading.column_sums.Goals as goal
+use Rattle.rows.proofs.column_sums.ColumnSums.of.Goals as goal
 
 pub invariant_of-result : goal.invariant_of-result
 invariant_of-result c =

@@ -3,7 +3,7 @@ use Rattle.family.specs.Points.{numerator_of}
 use Rattle.family.proofs.Casts.{result_back}
 use Rattle.problem.specs.Programs.{program}
 use Rattle.sums.specs.Sums.{dot}
-use Rattle.rows.proofs.duals.reading.column_sum.Goals as goal
+use Rattle.rows.proofs.column_sums.column_sum.Goals as goal
 
 pub returns-clause-value : goal.returns-clause-value
 returns-clause-value c =
