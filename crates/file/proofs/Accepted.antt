@@ -1,5 +1,5 @@
 -- The lists that a draft is written as have no fault.
-use Rattle.std.proofs.Common.{◌≡◌, ℕ, zero, suc, ◌+◌, ◌-◌, ◌*◌, ◌%◌, ◌<◌, ◌≤◌, Bool, true, false, cond, ◌&&◌, eqb, ltb, List, [], ◌∷◌, map, length, drop, replicate, ℤ, pos, neg_ℤ, nat_abs, ◌≤ℤ◌, Some, None, Ok, Err, sym, refl, ap, ◌∙◌, subst, arith}
+use Rattle.std.proofs.Common.{◌≡◌, ℕ, zero, suc, ◌+◌, ◌-◌, ◌*◌, ◌%◌, ◌<◌, ◌≤◌, Bool, true, false, cond, ◌&&◌, eqb, ltb, List, [], ◌∷◌, length, drop, replicate, ℤ, pos, neg_ℤ, nat_abs, ◌≤ℤ◌, Some, None, Ok, Err, sym, refl, ap, ◌∙◌, subst, arith}
 use native.Mathlib.Decide.{dec_lt}
 use borrow.Author.Differences.{ints}
 use lib.Signed.{le_z}
@@ -15,15 +15,15 @@ use Rattle.family.proofs.Scans.{Fine}
 use Rattle.problem.specs.declared.draft.Draft.{Draft}
 use Rattle.problem.specs.declared.kind.Kind.{Kind}
 use Rattle.problem.specs.declared.kind.Kind.TheVariants.{Plain, Switch}
-use Rattle.problem.specs.declared.row.Row.{Row}
 use Rattle.problem.specs.Calls.{Data, data_of}
 use Rattle.problem.specs.Drafts.{ProblemData}
 use Rattle.problem.specs.Headers.{header_fault}
 use Rattle.problem.specs.Kinds.{kind_number}
 use Rattle.problem.specs.Listings.{rates_kept, header_list, coefficients_of, listed_row}
 use Rattle.problem.specs.NewRows.{known_kind, ends_fault, row_fault}
-use Rattle.problem.specs.Tables.{RowData, row_data, row_at, cell, row_cells}
+use Rattle.problem.specs.Tables.{RowData, row_at, cell, row_cells}
 use Rattle.problem.proofs.Cells.{zeros}
+use Rattle.problem.proofs.Rows.{ends_of}
 
 -- what every draft keeps
 pub record Sound {C : Type 0} (d : Data C) : Type 0 where
@@ -39,17 +39,6 @@ pub record Sound {C : Type 0} (d : Data C) : Type 0 where
   pub small : Small 50 d.problem.cells
   pub fillers : (k : ℕ) → d.problem.n ≤ k % 8 → at d.problem.cells k ≡ pos 0
 
--- a row of the table, or a blank one past its end
-record SoundRow (r : RowData) : Type 0 where
-  low : nat_abs r.lo ≤ 10000
-  high : nat_abs r.hi ≤ 10000
-  ordered : r.lo ≤ℤ r.hi
-
-row_sound : (rows : List Row) (i : ℕ) → SoundRow (row_at (map row_data rows) i)
-row_sound [] i = record { low = omega arith; high = omega arith; ordered = omega (arith, ints) }
-row_sound (r ∷ rows) zero = record { low = r.low; high = r.high; ordered = r.ordered }
-row_sound (r ∷ rows) (suc i) = row_sound rows i
-
 pub draft_sound : {C : Type 0} (d : Draft C) → Sound (data_of d)
 draft_sound d = record {
   some = d.problem.some;
@@ -58,9 +47,9 @@ draft_sound d = record {
   gap = d.gap.small;
   rates = d.rates.small;
   beyond = d.fillers;
-  low = λ i. (row_sound d.problem.rows i).low;
-  high = λ i. (row_sound d.problem.rows i).high;
-  ordered = λ i. (row_sound d.problem.rows i).ordered;
+  low = λ i. (ends_of d.problem.rows i).low;
+  high = λ i. (ends_of d.problem.rows i).high;
+  ordered = λ i. (ends_of d.problem.rows i).ordered;
   small = d.problem.matrix.small;
   fillers = d.problem.fillers;
 }

@@ -13,10 +13,7 @@ static DRAFTS: [Changes; 2] = [&[], &[(0, 2, 2), (0, 4, 1_000_000), (0, 5, 2), (
 
 // What a file holds that is accepted.
 fn contents_of(bytes: &[u8]) -> Result<Contents, Fail> {
-    match read(bytes) {
-        Ok(contents) => Ok(contents),
-        Err(_) => Err(Fail::new("the file was refused")),
-    }
+    read(bytes).map_err(|_| Fail::new("the file was refused"))
 }
 
 // The draft has the numbers of these records.

@@ -9,7 +9,10 @@ use search::search::Search;
 use std::test::Fail;
 
 // The row and the side that a search advises to split at by a point.
-fn advised<F: Family>(search: &Search<F>, numbers: &[i32]) -> Result<Option<(usize, Side)>, Denied> {
+fn advised<F: Family>(
+    search: &Search<F>,
+    numbers: &[i32],
+) -> Result<Option<(usize, Side)>, Denied> {
     let advice = passed(search.advise(&point(numbers)))?;
     Ok(advice.map(|advice| (advice.row, advice.side)))
 }

@@ -30,12 +30,7 @@ fn the_sample_is_settled(rt: HostRuntime) -> Result<(), Fail> {
     let offers = halved(&found, 1, &lower, &upper);
     let mut outcomes = [UNTOUCHED; 4];
     let ended = passed(run(family, gap, &offers, &mut outcomes))?;
-    let expected = [
-        taken(9, 1),
-        SPLIT,
-        bound(9, 1),
-        bound(9, 1),
-    ];
+    let expected = [taken(9, 1), SPLIT, bound(9, 1), bound(9, 1)];
     check_outcomes(&rt, outcomes, expected)?;
     check_report(&rt, ended.report, (BEST, Some((9, 1)), 0, 1, 2));
     assert_eq!(rt; ended.point, [1, 3, 0, 0, 0, 0, 0, 0, 0]);
@@ -52,12 +47,7 @@ fn the_linear_sample_is_settled(rt: HostRuntime) -> Result<(), Fail> {
     let offers = halved(&found, 2, &lower, &upper);
     let mut outcomes = [UNTOUCHED; 4];
     let ended = passed(run(family, gap, &offers, &mut outcomes))?;
-    let expected = [
-        taken(4, 1),
-        SPLIT,
-        bound(6, 1),
-        bound(4, 1),
-    ];
+    let expected = [taken(4, 1), SPLIT, bound(6, 1), bound(4, 1)];
     check_outcomes(&rt, outcomes, expected)?;
     check_report(&rt, ended.report, (BEST, Some((4, 1)), 0, 1, 2));
     assert_eq!(rt; ended.point, [1, 0, 4, 0, 0, 0, 0, 0, 0]);

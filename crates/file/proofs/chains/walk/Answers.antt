@@ -1,16 +1,7 @@
-use Rattle.std.proofs.Common.{Ok, sym, ap, ◌∙◌, refl, arith}
+use Rattle.std.proofs.Common.{Ok, sym, ap, ◌∙◌, arith}
 use Rattle.file.specs.Walks.{reached_in, words_in}
-use Rattle.file.proofs.Turns.{chained_end, chained_fault, there, turn, turn_fault, longer, both_longer, stopped}
+use Rattle.file.proofs.Turns.{chained_end, chained_fault, there, turn, turn_fault, both_longer, stopped}
 use Rattle.file.proofs.chains.walk.Goals as goal
-
-pub loop-k-init : goal.loop-k-init
-loop-k-init g c = (c.args.records.now.some, c.requires.word, c.requires.room, refl)
-
-pub next-requires-clause-within : goal.next-requires-clause-within
-next-requires-clause-within g c = c.loop-k.invariant.0
-
-pub next-requires-clause-word : goal.next-requires-clause-word
-next-requires-clause-word g c = c.loop-k.invariant.1
 
 pub returns-in_err-k : goal.returns-in_err-k
 returns-in_err-k g c =
@@ -20,14 +11,6 @@ returns-in_err-k g c =
     (l.invariant.3 ∙ chained_fault (g.T.Grows.added f) f c.args.records.now.count (reached_in l.reached) (g.T.Grows.seen l.into) l.r l.w _ _ c.in_err-k.ensures.value)
     c.from_residual.ensures.1
 
-pub add-requires-clause-room : goal.add-requires-clause-room
-add-requires-clause-room g c =
-    let l = c.loop-k in
-    let n = c.in_ok-k.ensures in
-    let room = (there c.args.records.now.count (reached_in l.reached) c.in-Some.k c.in-Some.is n.new).2 in
-    let size = l.invariant.2 in
-    omega arith
-
 pub returns-in_err-add : goal.returns-in_err-add
 returns-in_err-add g c =
     let l = c.loop-k in
@@ -36,12 +19,6 @@ returns-in_err-add g c =
     stopped _ _ c.from_residual-in_err-add.result c.in_err-add.field-0.0
     (l.invariant.3 ∙ turn_fault (g.T.Grows.added f) f c.args.records.now.count (reached_in l.reached) (g.T.Grows.seen l.into) l.r l.w c.in-Some.k c.in-Some.is n.value n.new c.in_err-add.ensures.comes)
     c.from_residual-in_err-add.ensures.1
-
-pub loop-k-smaller : goal.loop-k-smaller
-loop-k-smaller g c =
-    let l = c.loop-k in
-    let n = c.in_ok-k.ensures in
-    longer c.args.records.now.count (reached_in l.reached) c.in-Some.k c.in-Some.is n.new c.push.ensures
 
 pub loop-k-preserved : goal.loop-k-preserved
 loop-k-preserved g c =

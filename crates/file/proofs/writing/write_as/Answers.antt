@@ -1,11 +1,8 @@
 use Rattle.std.proofs.Common.{◌≡◌, length, refl, rules}
 use Rattle.problem.specs.Calls.{data_of}
 use Rattle.problem.specs.Listings.{listed_row}
-use Rattle.file.proofs.Placings.{rows_none, rows_turn, rows_written, long_enough}
+use Rattle.file.proofs.Placings.{rows_turn, rows_written, long_enough}
 use Rattle.file.proofs.writing.write_as.Goals as goal
-
-pub loop-i-init : goal.loop-i-init
-loop-i-init g c = rows_none _ _ _
 
 pub loop-i-preserved : goal.loop-i-preserved
 loop-i-preserved g c =
