@@ -68,6 +68,7 @@ pub enum Layer {
 /// A denial as it is told to the outside. The place is 0 where there is none to tell.
 #[derive(Clone, Copy, Debug, PartialEq, Eq)]
 pub struct Denial {
+    // A number, by the rules: it is what callers and files are told.
     pub number: u8,
     pub place: usize,
     pub layer: Layer,

@@ -12,6 +12,7 @@ pub const LARGEST: usize = 819;
 pub enum Call {
     Point([i32; 9]),
     Proof([i32; 17]),
+    // The side is a number, by the rules: it may lie outside its limits, and is judged when the call is made.
     Split { row: i32, side: i32 },
 }
 

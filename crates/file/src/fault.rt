@@ -30,6 +30,7 @@ pub enum FileFault {
 /// A refusal of a file as it is told to the outside.
 #[derive(Clone, Copy, Debug, PartialEq, Eq)]
 pub struct Refusal {
+    // A number, by the rules: it is what is printed.
     pub number: u8,
     pub at: usize,
     pub place: usize,

@@ -46,6 +46,7 @@ pub fn read(bytes: &[u8]) -> Result<Contents, FileFault>
     let records = Records::of(bytes)?;
     records.check_link(0)?;
     records.check_link(1)?;
+    // An arm for each family: the two differ in their types, which no value can choose.
     match FamilyKind::try_from(records.word(0, 2)) {
         Ok(FamilyKind::Squares) => {
             let (draft, calls) = read_as(Squares, &records)?;

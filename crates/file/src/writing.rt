@@ -27,6 +27,7 @@ fn write_as<C: Cost>(draft: &Draft<C>, family: FamilyKind, place: &mut [u8]) -> 
         return Err(ListFault::Length.into());
     }
     records::put_head(place, m, family, &draft.header_list());
+    // Rows by their index: a draft gives their lists one at a time, and lends no slice of them.
     for i in 0..m {
         records::put_row(place, i + 1, m, &draft.row_list(i));
     }
@@ -40,6 +41,7 @@ pub fn write(draft: &AnyDraft, place: &mut [u8]) -> Result<(), Fault>
     ensures written { MatchResult result (λ _. WrittenAs place.old place.new (any_data draft.now)) (λ _. place.new ≡ place.old) }
     ensures trip { OnOk result (RoundTrip (any_data draft.now) place.new) }
 {
+    // An arm for each family: the two differ in their types, which no value can choose.
     match draft {
         AnyDraft::Squares(draft) => write_as(draft, FamilyKind::Squares, place),
         AnyDraft::Linear(draft) => write_as(draft, FamilyKind::Linear, place),

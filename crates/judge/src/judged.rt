@@ -11,6 +11,7 @@ mod lines;
 pub struct Judged {
     pub quantities: usize,
     pub calls: Calls,
+    // A table beside the calls: `run` writes into a lent slice, and nothing can stand for an outcome before there is one.
     pub outcomes: [Result<Accepted, Fault>; 819],
     pub end: Ended,
 }

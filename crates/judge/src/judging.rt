@@ -43,6 +43,7 @@ pub fn judge(bytes: &[u8]) -> Result<Judged, FileFault>
     ensures { MatchResult result (λ j. IsOkAnd (reading bytes.now) (λ x. JudgedAs x j)) (λ e. reading bytes.now ≡ Err e) }
 {
     let Contents { draft, calls } = read(bytes)?;
+    // An arm for each family: the two differ in their types, which no value can choose.
     match draft {
         AnyDraft::Squares(draft) => {
             let (family, gap) = LeastSquares::from_draft(draft);

@@ -132,6 +132,7 @@ impl fmt::Display for Quantities {
             self.quantity(7),
             self.quantity(8),
         );
+        // Eight pieces and no loop: the text is defined as these eight, and a loop that writes would need its own definition.
         write!(f, "{a}{b}{c}{d}{e}{g}{h}{i}")
     }
 }

@@ -58,6 +58,7 @@ impl fmt::Display for FileFault {
     }
 }
 
+// `From` by hand: a derive gives no contract, and the contracts of this crate name the fault that `?` makes.
 impl From<InRecord> for FileFault {
     ghost from_gives = { λ e r. r ≡ Inside e };
 
