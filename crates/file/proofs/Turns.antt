@@ -7,7 +7,10 @@ use Rattle.file.specs.declared.fault.FileFault.TheVariants.{Link}
 use Rattle.file.specs.Chains.{next, goes, chained}
 use Rattle.file.specs.Files.{call_added}
 use Rattle.file.specs.Records.{and_then, call_in}
-use Rattle.file.specs.Walks.{New}
+use Rattle.file.specs.declared.records.Record.{Record}
+use Rattle.file.specs.declared.records.Records.{Records}
+use Rattle.file.specs.Walks.{New, Names, words_in, words_of}
+use Rattle.file.specs.Words.{word}
 
 -- what the exit of a `?` returns is the fault d
 pub stopped : {T E A : Type 0} (P : T → Type 0) (x : Result A E) (r : Result T E) (d : E) → x ≡ Err d → IsErrAnd r (λ y. y ≡ d) → MatchResult r P (λ e. x ≡ Err e)
@@ -25,6 +28,11 @@ module _ (n : ℕ) (reached : List ℕ) (k : ℕ) {o : Option ℕ} (is : o ≡ S
 -- what takes up room grew by one at most, and there is one record more
 pub both_longer : {size size' : ℕ} (reached : List ℕ) (k : ℕ) {reached' : List ℕ} → size ≤ length reached → size' ≤ size + 1 → reached' ≡ reached ++ (k ∷ []) → size' ≤ length reached'
 both_longer reached k h g q = omega (arith, ap length q, length-append reached (k ∷ []))
+
+-- a record by itself, and as the file has it
+pub same_added : {S : Type 0} (added : (ℕ → ℤ) → ℕ → S → Result S FileFault) {records : Records} {r : ℕ} {one : Record} {s : S} → Names records r one
+    → added (words_of one) one.at s ≡ added (words_in records) r s
+same_added added {s = s} n = λ i. added (word (n.same i)) (n.at i) s
 
 pub call_fault : (f : ℕ → ℤ) (r : ℕ) (calls : List Call) {d : FileFault} → Err d ≡ call_in f r → call_added f r calls ≡ Err d
 call_fault f r calls e = λ i. and_then (sym e i) (λ call. Ok (calls ++ (call ∷ [])))

@@ -2,6 +2,9 @@
 use Rattle.std.specs.Prelude.{◌≡◌, ℕ, ◌-◌, ◌<◌, false, List, length, ℤ, Some, None, Ok, Err, Option, Result, MatchResult}
 use Rattle.file.specs.declared.fault.FileFault.{FileFault}
 use Rattle.file.specs.declared.reached.Reached.{Reached}
+use Rattle.file.specs.declared.records.Chain.{Chain}
+use Rattle.file.specs.declared.records.Chain.TheVariants.{Rows, Calls}
+use Rattle.file.specs.declared.records.Record.{Record}
 use Rattle.file.specs.declared.records.Records.{Records}
 use Rattle.file.specs.Chains.{has, chained}
 use Rattle.file.specs.Files.{counted}
@@ -12,6 +15,19 @@ reached_in reached = reached.order.items
 
 abbrev pub words_in : Records → ℕ → ℤ
 words_in records = word records.bytes.now
+
+abbrev pub words_of : Record → ℕ → ℤ
+words_of one = word one.bytes.now
+
+-- record r of the file
+pub record Names (records : Records) (r : ℕ) (one : Record) : Type 0 where
+  pub at : one.at ≡ r
+  pub same : one.bytes.now ≡ records.bytes.now
+
+-- the word of record 0 in which a chain begins
+abbrev pub first_word : Chain → ℕ
+first_word Rows = 0
+first_word Calls = 1
 
 -- the records of these bytes, as many as their length tells
 abbrev pub Counts : List ℕ → Result Records FileFault → Type 0

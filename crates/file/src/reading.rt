@@ -13,7 +13,7 @@ use crate::contents::{AnyDraft, Contents};
 use crate::fault::FileFault;
 use crate::kinds::FamilyKind;
 use crate::reached::Reached;
-use crate::records::Records;
+use crate::records::{Chain, Records};
 use problem::cost::{Cost, Linear, Squares};
 use problem::draft::Draft;
 
@@ -21,7 +21,7 @@ use problem::draft::Draft;
 fn header<C: Cost + Drop>(cost: C, records: &Records) -> Result<Draft<C>, FileFault>
     ensures { result_map_both data_of (λ e. e) result ≡ headed cost (C.Cost.rated cost) (words_in records.now) }
 {
-    let list: [i32; 10] = records.list(0, 3)?;
+    let list: [i32; 10] = records.record(0).list(3)?;
     let mut draft = Draft::new(cost);
     in_record(0, draft.header(&list))?;
     Ok(draft)
@@ -33,9 +33,9 @@ fn read_as<C: Cost + Drop>(cost: C, records: &Records) -> Result<(Draft<C>, Call
 {
     let mut draft = header(cost, records)?;
     let mut reached = Reached::none();
-    walk(&mut draft, &mut reached, records, 0)?;
+    walk(&mut draft, &mut reached, records, Chain::Rows)?;
     let mut calls = Calls::new();
-    walk(&mut calls, &mut reached, records, 1)?;
+    walk(&mut calls, &mut reached, records, Chain::Calls)?;
     Ok((draft, calls))
 }
 
@@ -44,10 +44,10 @@ pub fn read(bytes: &[u8]) -> Result<Contents, FileFault>
     ensures { result_map_both contents_of (λ e. e) result ≡ reading bytes.now }
 {
     let records = Records::of(bytes)?;
-    records.check_link(0)?;
-    records.check_link(1)?;
+    records.check_link(Chain::Rows)?;
+    records.check_link(Chain::Calls)?;
     // An arm for each family: the two differ in their types, which no value can choose.
-    match FamilyKind::try_from(records.word(0, 2)) {
+    match FamilyKind::try_from(records.record(0).word(2)) {
         Ok(FamilyKind::Squares) => {
             let (draft, calls) = read_as(Squares, &records)?;
             Ok(Contents {

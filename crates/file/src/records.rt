@@ -1,5 +1,5 @@
 // The records of a file.
-ghost use Rattle.std.specs.Prelude.{◌≡◌, ℕ, ◌*◌, ◌<◌, ◌≤◌, length};
+ghost use Rattle.std.specs.Prelude.{◌≡◌, ℕ, ◌+◌, ◌*◌, ◌<◌, ◌≤◌, length};
 
 mod reading;
 
@@ -17,4 +17,19 @@ pub(crate) struct Records<'a> {
     ghost some: { 0 < count },
     ghost few: { count ≤ 819 },
     ghost inside: { 80 * count ≤ length bytes.now },
+}
+
+/// One record among the bytes of a file.
+#[derive(Clone, Copy)]
+pub(crate) struct Record<'a> {
+    bytes: &'a [u8],
+    pub(crate) at: usize,
+    ghost inside: { 80 * at + 80 ≤ length bytes.now },
+}
+
+/// A chain of records, which begins in a word of record 0.
+#[derive(Clone, Copy)]
+pub(crate) enum Chain {
+    Rows,
+    Calls,
 }

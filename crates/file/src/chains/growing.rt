@@ -1,42 +1,41 @@
 // A draft grows by rows, and a list of calls by calls.
-ghost use Rattle.std.specs.Prelude.{◌≡◌, ℕ, ◌<◌, length, List};
+ghost use Rattle.std.specs.Prelude.{◌≡◌, ℕ, length, List};
 ghost use Rattle.problem.specs.Calls.{Data, data_of};
 ghost use Rattle.file.specs.declared.call.Call.{Call as ACall};
 ghost use Rattle.file.specs.Contents.{calls_of};
 ghost use Rattle.file.specs.Files.{call_added};
 ghost use Rattle.file.specs.Records.{in_record, row_added, call_in};
-ghost use Rattle.file.specs.Walks.{words_in};
+ghost use Rattle.file.specs.Walks.{words_of};
 
 use crate::call::{Call, Calls};
 use crate::chains::Grows;
 use crate::fault::{FileFault, InRecord};
 use crate::kinds::CallKind;
-use crate::records::Records;
+use crate::records::Record;
 use family::fault::Fault;
 use problem::cost::Cost;
 use problem::draft::Draft;
 use problem::kind::Kind;
 
-// A fault below is kept whole, with the record.
+// A fault below is kept whole, with the entry.
 pub(crate) fn in_record(r: usize, answer: Result<(), Fault>) -> Result<(), FileFault>
     ensures { result ≡ in_record r answer }
 {
     answer.map_err(|fault| InRecord { at: r, fault }.into())
 }
 
-// The call of record r.
-fn call(records: &Records, r: usize) -> Result<Call, FileFault>
-    requires { r < records.now.count }
-    ensures { result ≡ call_in (words_in records.now) r }
+// The call that a record asks for.
+fn call(entry: &Record) -> Result<Call, FileFault>
+    ensures { result ≡ call_in (words_of entry.now) entry.now.at }
 {
-    match CallKind::try_from(records.word(r, 1)) {
-        Ok(CallKind::Point) => Ok(Call::Point(records.list(r, 2)?)),
-        Ok(CallKind::Proof) => Ok(Call::Proof(records.list(r, 2)?)),
+    match CallKind::try_from(entry.word(1)) {
+        Ok(CallKind::Point) => Ok(Call::Point(entry.list(2)?)),
+        Ok(CallKind::Proof) => Ok(Call::Proof(entry.list(2)?)),
         Ok(CallKind::Split) => {
-            let [row, side] = records.list::<2>(r, 2)?;
+            let [row, side] = entry.list::<2>(2)?;
             Ok(Call::Split { row, side })
         }
-        Err(_) => Err(FileFault::Kind { at: r }),
+        Err(_) => Err(FileFault::Kind { at: entry.at }),
     }
 }
 
@@ -49,12 +48,12 @@ impl<C: Cost> Grows for Draft<C> {
 
     ghost added = { row_added };
 
-    fn add(&mut self, records: &Records, r: usize) -> Result<(), FileFault> {
-        if Kind::try_from(records.word(r, 1)).is_err() {
-            return Err(FileFault::Kind { at: r });
+    fn add(&mut self, entry: &Record) -> Result<(), FileFault> {
+        if Kind::try_from(entry.word(1)).is_err() {
+            return Err(FileFault::Kind { at: entry.at });
         }
-        let list: [i32; 11] = records.list(r, 1)?;
-        in_record(r, self.add_row(&list))
+        let list: [i32; 11] = entry.list(1)?;
+        in_record(entry.at, self.add_row(&list))
     }
 }
 
@@ -67,8 +66,8 @@ impl Grows for Calls {
 
     ghost added = { call_added };
 
-    fn add(&mut self, records: &Records, r: usize) -> Result<(), FileFault> {
-        self.push(call(records, r)?);
+    fn add(&mut self, entry: &Record) -> Result<(), FileFault> {
+        self.push(call(entry)?);
         Ok(())
     }
 }

@@ -1,16 +1,77 @@
 // Reading records: words, lists, unused words and links.
-ghost use Rattle.std.specs.Prelude.{◌≡◌, ℕ, ◌+◌, ◌*◌, ◌<◌, ◌≤◌, Bool, true, false, length, MatchResult};
+ghost use Rattle.std.specs.Prelude.{◌≡◌, ℕ, ◌+◌, ◌*◌, ◌<◌, ◌≤◌, length, Ok, Err, MatchOption};
+ghost use Rattle.file.specs.declared.fault.FileFault.TheVariants.{Unused};
 ghost use Rattle.file.specs.Chains.{targeted, next};
-ghost use Rattle.file.specs.Files.{counted, linked};
+ghost use Rattle.file.specs.Files.{linked};
 ghost use Rattle.file.specs.Records.{cell, unused, listed};
-ghost use Rattle.file.specs.Walks.{reached_in, New, Counts, words_in};
+ghost use Rattle.file.specs.Walks.{reached_in, New, Counts, words_in, words_of, first_word, Names};
 ghost use Rattle.file.specs.Words.{span};
 
 use crate::call::LARGEST;
 use crate::fault::FileFault;
 use crate::reached::Reached;
-use crate::records::{BYTES, Records, WORDS};
+use crate::records::{BYTES, Chain, Record, Records, WORDS};
 use crate::words;
+
+impl Record<'_> {
+    // Word w.
+    pub(crate) fn word(&self, w: usize) -> i32
+        requires { w < 20 }
+        ensures { result ≡ cell (words_of self.now) self.now.at w }
+    {
+        words::get(self.bytes, WORDS * self.at + w)
+    }
+
+    // The first word from `from` on that is not 0.
+    fn first_used(&self, from: usize) -> Option<usize>
+        requires { from ≤ 20 }
+        ensures { MatchOption result (unused (words_of self.now) self.now.at from ≡ Ok tt) (λ w. unused (words_of self.now) self.now.at from ≡ Err (Unused self.now.at w)) }
+    {
+        (from..WORDS).find(|&w| self.word(w) != 0)
+    }
+
+    // The words from `from` on are not in use.
+    pub(crate) fn check_unused(&self, from: usize) -> Result<(), FileFault>
+        requires { from ≤ 20 }
+        ensures { result ≡ unused (words_of self.now) self.now.at from }
+    {
+        match self.first_used(from) {
+            Some(word) => Err(FileFault::Unused { at: self.at, word }),
+            None => Ok(()),
+        }
+    }
+
+    // The N numbers from word w on.
+    pub(crate) fn numbers<const N: usize>(&self, w: usize) -> [i32; N]
+        requires { w + N ≤ 20 }
+        ensures { result ≡ span (words_of self.now) (20 * self.now.at + w) N }
+    {
+        let mut numbers = [0; N];
+        words::copy(self.bytes, WORDS * self.at + w, &mut numbers);
+        numbers
+    }
+
+    // The N numbers from word w on, where no word after them is in use.
+    pub(crate) fn list<const N: usize>(&self, w: usize) -> Result<[i32; N], FileFault>
+        requires { w + N ≤ 20 }
+        ensures { result ≡ listed (words_of self.now) self.now.at w N }
+    {
+        self.check_unused(w + N)?;
+        Ok(self.numbers(w))
+    }
+}
+
+impl Chain {
+    // The word of record 0 in which the chain begins.
+    pub(crate) fn first(self) -> usize
+        ensures { result ≡ first_word self }
+    {
+        match self {
+            Chain::Rows => 0,
+            Chain::Calls => 1,
+        }
+    }
+}
 
 impl<'a> Records<'a> {
     // The records of a file, or that its length is wrong.
@@ -24,46 +85,15 @@ impl<'a> Records<'a> {
         Ok(Records { bytes, count })
     }
 
-    // Word w of record r.
-    pub(crate) fn word(&self, r: usize, w: usize) -> i32
-        requires within { r < self.now.count }
-        requires word { w < 20 }
-        ensures { result ≡ cell (words_in self.now) r w }
+    // The record with this number.
+    pub(crate) fn record(&self, r: usize) -> Record<'a>
+        requires { r < self.now.count }
+        ensures { Names self.now r result }
     {
-        words::get(self.bytes, WORDS * r + w)
-    }
-
-    // The words of record r from `from` on are not in use.
-    pub(crate) fn check_unused(&self, r: usize, from: usize) -> Result<(), FileFault>
-        requires within { r < self.now.count }
-        requires few { from ≤ 20 }
-        ensures { result ≡ unused (words_in self.now) r from }
-    {
-        match (from..WORDS).find(|&w| self.word(r, w) != 0) {
-            Some(word) => Err(FileFault::Unused { at: r, word }),
-            None => Ok(()),
+        Record {
+            bytes: self.bytes,
+            at: r,
         }
-    }
-
-    // The N numbers of record r from word w on.
-    pub(crate) fn numbers<const N: usize>(&self, r: usize, w: usize) -> [i32; N]
-        requires within { r < self.now.count }
-        requires fits { w + N ≤ 20 }
-        ensures { result ≡ span (words_in self.now) (20 * r + w) N }
-    {
-        let mut numbers = [0; N];
-        words::copy(self.bytes, WORDS * r + w, &mut numbers);
-        numbers
-    }
-
-    // The N numbers of record r from word w on, where no word after them is in use.
-    pub(crate) fn list<const N: usize>(&self, r: usize, w: usize) -> Result<[i32; N], FileFault>
-        requires within { r < self.now.count }
-        requires fits { w + N ≤ 20 }
-        ensures { result ≡ listed (words_in self.now) r w N }
-    {
-        self.check_unused(r, w + N)?;
-        Ok(self.numbers(r, w))
     }
 
     // The record that a link names, if the file has it.
@@ -76,14 +106,14 @@ impl<'a> Records<'a> {
         }
     }
 
-    // The link in word w of record 0 lies in the file.
-    pub(crate) fn check_link(&self, w: usize) -> Result<(), FileFault>
-        requires { w < 20 }
-        ensures { result ≡ linked (words_in self.now) self.now.count w }
+    // The link with which a chain begins lies in the file.
+    pub(crate) fn check_link(&self, chain: Chain) -> Result<(), FileFault>
+        ensures { result ≡ linked (words_in self.now) self.now.count (first_word chain) }
     {
-        match self.target(self.word(0, w)) {
+        let word = chain.first();
+        match self.target(self.record(0).word(word)) {
             Some(_) => Ok(()),
-            None => Err(FileFault::Link { at: 0, word: w }),
+            None => Err(FileFault::Link { at: 0, word }),
         }
     }
 
@@ -99,7 +129,7 @@ impl<'a> Records<'a> {
         ensures value { result ≡ next (words_in self.now) self.now.count (reached_in reached.now) r w }
         ensures new { New result self.now.count (reached_in reached.now) }
     {
-        match self.target(self.word(r, w)) {
+        match self.target(self.record(r).word(w)) {
             Some(0) => Ok(None),
             Some(k) if !reached.contains(k) => Ok(Some(k)),
             _ => Err(FileFault::Link { at: r, word: w }),
