@@ -22,14 +22,14 @@ fn write_as<C: Cost>(draft: &Draft<C>, family: FamilyKind, place: &mut [u8]) -> 
     ensures answer { result ≡ write_answer (length place.old) (data_of draft.now).problem.m }
     ensures written { MatchResult result (λ _. Written place.old place.new (data_of draft.now).problem.m (pos (family_number family)) (header_list (C.Cost.rated draft.now.cost) (data_of draft.now)) (listed_row (data_of draft.now))) (λ _. place.new ≡ place.old) }
 {
-    let m = draft.row_count();
-    if place.len() < BYTES * (m + 1) {
+    let m = draft.row_count() as u8;
+    if place.len() < BYTES * (m as usize + 1) {
         return Err(ListFault::Length.into());
     }
     records::put_head(place, m, family, &draft.header_list());
     // Rows by their index: a draft gives their lists one at a time, and lends no slice of them.
     for i in 0..m {
-        records::put_row(place, i + 1, m, &draft.row_list(i));
+        records::put_row(place, i + 1, m, &draft.row_list(i as usize));
     }
     Ok(())
 }

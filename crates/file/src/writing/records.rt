@@ -8,16 +8,14 @@ use crate::records::WORDS;
 use crate::writing::words;
 
 // The link in word 0 of record i, in a file of m rows.
-fn link_after(i: usize, m: usize) -> i32
-    requires { m ≤ 16 }
+fn link_after(i: u8, m: u8) -> i32
     ensures { result ≡ link_after i m }
 {
-    if i < m { (i + 1) as i32 } else { 0 }
+    if i < m { i32::from(i + 1) } else { 0 }
 }
 
 // Puts record 0 of a file of m rows.
-pub(crate) fn put_head(place: &mut [u8], m: usize, family: FamilyKind, header: &[i32])
-    requires few { m ≤ 16 }
+pub(crate) fn put_head(place: &mut [u8], m: u8, family: FamilyKind, header: &[i32])
     requires inside { 80 ≤ length place.old }
     requires ten { length header.now ≡ 10 }
     ensures { Puts place.old place.new 0 (head_words m (pos (family_number family)) header.now) }
@@ -30,13 +28,12 @@ pub(crate) fn put_head(place: &mut [u8], m: usize, family: FamilyKind, header: &
 }
 
 // Puts a row into record i of a file of m rows.
-pub(crate) fn put_row(place: &mut [u8], i: usize, m: usize, list: &[i32])
-    requires few { m ≤ 16 }
+pub(crate) fn put_row(place: &mut [u8], i: u8, m: u8, list: &[i32])
     requires inside { 80 * i + 80 ≤ length place.old }
     requires eleven { length list.now ≡ 11 }
     ensures { Puts place.old place.new (20 * i) (row_words i m list.now) }
 {
-    let first = WORDS * i;
+    let first = WORDS * i as usize;
     words::put(place, first, link_after(i, m));
     words::put_list(place, first + 1, list);
     words::put_list(place, first + 12, &[0; 8]);
