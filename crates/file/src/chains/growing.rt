@@ -17,7 +17,7 @@ use problem::cost::Cost;
 use problem::draft::Draft;
 use problem::kind::Kind;
 
-// A fault below is kept whole, with the entry.
+// A fault below is kept whole, with the record.
 pub(crate) fn in_record(r: usize, answer: Result<(), Fault>) -> Result<(), FileFault>
     ensures { result ≡ in_record r answer }
 {
