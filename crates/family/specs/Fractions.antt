@@ -1,6 +1,7 @@
 -- Costs and bounds are fractions: a pair of a numerator and a positive denominator, not reduced. They are
 -- compared by cross products.
-use Rattle.std.specs.Prelude.{ℕ, ◌≤◌, Bool, ℤ, pos, ◌-ℤ◌, ◌*ℤ◌, ◌≤ℤ◌, int_le, int_lt, unsigned_abs}
+use Rattle.std.specs.Fmt.{signed_decimal}
+use Rattle.std.specs.Prelude.{ℕ, ◌≤◌, List, ◌++◌, codes, Bool, ℤ, pos, ◌-ℤ◌, ◌*ℤ◌, ◌≤ℤ◌, int_le, int_lt, unsigned_abs}
 
 abbrev pub Fraction : Type 0
 Fraction = ℤ × ℤ
@@ -26,3 +27,7 @@ pub record Fair (c : Fraction) : Type 0 where
   pub numerator : unsigned_abs c.0 ≤ 8000000000000
   pub positive : pos 1 ≤ℤ c.1
   pub denominator : c.1 ≤ℤ pos 1000000
+
+-- what is printed of a cost or a bound
+abbrev pub fraction_text : Fraction → List ℕ
+fraction_text x = signed_decimal x.0 ++ (codes "/" ++ signed_decimal x.1)

@@ -1,4 +1,5 @@
--- How the rules read the values of this crate.
+-- How the rules read the values of this crate. These are words for clauses, and no model in the place of the values: that a denied call leaves
+-- a value "equal to what it was" is said of the value itself, which is more than its reading.
 use Rattle.std.specs.Prelude.{ℕ, cond, ◌&&◌, ℤ, pos, Some, None, Option, int_le, unsigned_abs}
 use Rattle.family.specs.declared.gap.Gap.{Gap}
 use Rattle.family.specs.declared.side.Side.{Side}

@@ -5,5 +5,6 @@
 pub enum Judgement {
     // Not an Option of a bound: None would read as "no bound", where void is the strongest answer of all.
     Void,
+    // A pair, as every cost and bound is, by a rule of the project.
     Bound((i64, i64)),
 }

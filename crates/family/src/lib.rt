@@ -7,6 +7,7 @@ ghost use Rattle.family.specs.Points.{any_point, any_proof};
 ghost use Rattle.family.specs.Reading.{side_of};
 
 pub mod fault;
+pub mod fraction;
 pub mod gap;
 pub mod judgement;
 pub mod offered;
@@ -17,6 +18,7 @@ pub mod shape;
 pub mod side;
 pub mod sides;
 pub mod sizes;
+pub mod unknown;
 
 use fault::{PointFault, ProofFault};
 use judgement::Judgement;

@@ -7,7 +7,3 @@ pub enum Side {
     Lower,
     Upper,
 }
-
-/// A number that stands for no side.
-#[derive(Clone, Copy, Debug, PartialEq, Eq)]
-pub struct UnknownSide(pub i32);

@@ -5,3 +5,9 @@ pub const QUANTITIES: usize = 8;
 
 /// As many rows as a problem can have.
 pub const ROWS: usize = 16;
+
+/// As many numbers as the list of a point has: a denominator, and a numerator for each quantity.
+pub const POINT_NUMBERS: usize = 9;
+
+/// As many numbers as the list of a proof has: a scale, and a multiplier for each row.
+pub const PROOF_NUMBERS: usize = 17;

@@ -12,7 +12,7 @@ impl<const COUNT: usize, const BOUND: u32> Offered<COUNT, BOUND> {
         ensures value { result ≡ pos (denominator_of self.now) }
         ensures small { unsigned_abs result ≤ 1000 }
     {
-        self.denominator as i64
+        i64::from(self.denominator)
     }
 
     /// The numerator with this index, 0 beyond the last.
@@ -20,10 +20,7 @@ impl<const COUNT: usize, const BOUND: u32> Offered<COUNT, BOUND> {
         ensures value { result ≡ numerator_of self.now index }
         ensures small { unsigned_abs result ≤ BOUND }
     {
-        match self.numerators.get(index) {
-            Some(numerator) => *numerator as i64,
-            None => 0,
-        }
+        self.numerators.get(index).copied().map_or(0, i64::from)
     }
 
     // What a list holds that is a denominator and then as many numerators, all within their limits.
@@ -37,6 +34,7 @@ impl<const COUNT: usize, const BOUND: u32> Offered<COUNT, BOUND> {
         let [denominator, rest @ ..] = list else {
             unreachable!()
         };
+        // Copied, and not by `try_from`, which would answer a Result that cannot fail here.
         let mut numerators = [0; COUNT];
         numerators.copy_from_slice(rest);
         Offered {

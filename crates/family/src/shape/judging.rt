@@ -4,6 +4,7 @@ ghost use Rattle.family.specs.Lists.{length_of, limits_at, around, in_use, withi
 
 use crate::fault::ListFault;
 use crate::shape::{Limits, Shape};
+use crate::sizes::{POINT_NUMBERS, PROOF_NUMBERS};
 
 impl Limits {
     // From -bound to bound.
@@ -21,7 +22,7 @@ impl Limits {
     fn hold(self, number: i32) -> bool
         ensures { result ≡ within self number }
     {
-        self.low <= number && number <= self.high
+        (self.low..=self.high).contains(&number)
     }
 }
 
@@ -52,8 +53,8 @@ impl Shape {
         ensures { result ≡ length_of self }
     {
         match self {
-            Shape::Point { .. } => 9,
-            Shape::Proof { .. } => 17,
+            Shape::Point { .. } => POINT_NUMBERS,
+            Shape::Proof { .. } => PROOF_NUMBERS,
             Shape::Header { .. } => 10,
             Shape::Row { .. } => 11,
         }

@@ -46,6 +46,7 @@ impl Sides {
         requires { row < 16 }
         ensures { (k : ℕ) → side_of result k ≡ fixed (side_of self) row side k }
     {
+        // An index with its limit and no type of its own: it would be made by the one caller and taken apart here.
         let bit = 1 << row;
         match side {
             Side::Lower => Sides {
