@@ -6,7 +6,9 @@ use Rattle.file.specs.declared.call.Call.{Call}
 use Rattle.file.specs.declared.fault.FileFault.{FileFault}
 use Rattle.file.specs.declared.fault.FileFault.TheVariants.{Length, Family, Link}
 use Rattle.file.specs.Chains.{targeted, chained}
+use Rattle.file.specs.declared.kinds.FamilyKind.TheVariants.{Squares, Linear}
 use Rattle.file.specs.Contents.{AnyData, squares, linear}
+use Rattle.file.specs.Kinds.{family_number}
 use Rattle.file.specs.Records.{is, unused, in_record, and_then, row_added, call_in}
 use Rattle.file.specs.Words.{word, span}
 
@@ -44,8 +46,8 @@ in_file cost rated f n =
 
 abbrev pub by_family : (ℕ → ℤ) → ℕ → Result (AnyData × List Call) FileFault
 by_family f n =
-    cond (is 1 (f 2)) (result_map_both (λ x. (squares x.0, x.1)) (λ e. e) (in_file (record {}) false f n))
-    (cond (is 2 (f 2)) (result_map_both (λ x. (linear x.0, x.1)) (λ e. e) (in_file (record {}) true f n)) (Err Family))
+    cond (is (family_number Squares) (f 2)) (result_map_both (λ x. (squares x.0, x.1)) (λ e. e) (in_file (record {}) false f n))
+    (cond (is (family_number Linear) (f 2)) (result_map_both (λ x. (linear x.0, x.1)) (λ e. e) (in_file (record {}) true f n)) (Err Family))
 
 unfoldable pub reading : List ℕ → Result (AnyData × List Call) FileFault
 reading bs =

@@ -3,11 +3,15 @@
 use Rattle.std.specs.Prelude.{ℕ, zero, suc, ◌+◌, ◌-◌, ◌*◌, Bool, false, cond, ◌||◌, List, ℤ, pos, negsuc, Ok, Err, Result, ◌==◌}
 use Rattle.std.specs.Result.{result_and, result_map_both}
 use Rattle.family.specs.declared.fault.Fault.{Fault}
+use Rattle.problem.specs.declared.kind.Kind.TheVariants.{Plain, Switch}
 use Rattle.problem.specs.Calls.{Data, row_answer, with_listed_row}
+use Rattle.problem.specs.Kinds.{kind_number}
 use Rattle.file.specs.declared.call.Call.{Call}
 use Rattle.file.specs.declared.call.Call.TheVariants.{Point, Proof, Split}
 use Rattle.file.specs.declared.fault.FileFault.{FileFault}
 use Rattle.file.specs.declared.fault.FileFault.TheVariants.{Unused, Kind, Inside}
+use Rattle.file.specs.declared.kinds.CallKind.{CallKind}
+use Rattle.file.specs.Kinds.{call_number}
 use Rattle.file.specs.Words.{span}
 
 -- word w of record r
@@ -44,7 +48,7 @@ abbrev pub row_list : (ℕ → ℤ) → ℕ → List ℤ
 row_list f r = span f (20 * r + 1) 11
 
 abbrev pub row_kind : (ℕ → ℤ) → ℕ → Result (Unit {0}) FileFault
-row_kind f r = cond (is 1 (cell f r 1) || is 2 (cell f r 1)) (Ok tt) (Err (Kind r))
+row_kind f r = cond (is (kind_number Plain) (cell f r 1) || is (kind_number Switch) (cell f r 1)) (Ok tt) (Err (Kind r))
 
 -- the draft with the row that record r holds: its kind, its unused words, and then as ADD ROW judges it
 abbrev pub row_added : {C : Type 0} → (ℕ → ℤ) → ℕ → Data C → Result (Data C) FileFault
@@ -59,6 +63,6 @@ used f r w call = result_and (unused f r w) (Ok call)
 
 abbrev pub call_in : (ℕ → ℤ) → ℕ → Result Call FileFault
 call_in f r =
-    cond (is 3 (cell f r 1)) (used f r 11 (Point (span f (20 * r + 2) 9)))
-    (cond (is 4 (cell f r 1)) (used f r 19 (Proof (span f (20 * r + 2) 17)))
-    (cond (is 5 (cell f r 1)) (used f r 4 (Split (cell f r 2) (cell f r 3))) (Err (Kind r))))
+    cond (is (call_number CallKind.Point) (cell f r 1)) (used f r 11 (Point (span f (20 * r + 2) 9)))
+    (cond (is (call_number CallKind.Proof) (cell f r 1)) (used f r 19 (Proof (span f (20 * r + 2) 17)))
+    (cond (is (call_number CallKind.Split) (cell f r 1)) (used f r 4 (Split (cell f r 2) (cell f r 3))) (Err (Kind r))))

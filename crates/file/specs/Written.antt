@@ -5,7 +5,9 @@ use Rattle.family.specs.declared.fault.Fault.TheVariants.{List as in_list}
 use Rattle.family.specs.declared.fault.ListFault.TheVariants.{Length}
 use Rattle.family.specs.Numbers.{at}
 use Rattle.problem.specs.Listings.{header_list, listed_row}
+use Rattle.file.specs.declared.kinds.FamilyKind.TheVariants.{Squares, Linear}
 use Rattle.file.specs.Contents.{AnyData, squares, linear}
+use Rattle.file.specs.Kinds.{family_number}
 use Rattle.file.specs.Words.{word}
 
 -- `to` is `from` with z in word k
@@ -49,8 +51,8 @@ rows_in (squares d) = d.problem.m
 rows_in (linear d) = d.problem.m
 
 abbrev pub family_of : AnyData → ℤ
-family_of (squares d) = pos 1
-family_of (linear d) = pos 2
+family_of (squares d) = pos (family_number Squares)
+family_of (linear d) = pos (family_number Linear)
 
 abbrev pub header_of : AnyData → List ℤ
 header_of (squares d) = header_list false d

@@ -1,5 +1,6 @@
 // The calls that a file asks for.
 use arrayvec::ArrayVec;
+use family::sizes::{POINT_NUMBERS, PROOF_NUMBERS};
 
 mod blank;
 
@@ -10,8 +11,8 @@ pub const LARGEST: usize = 819;
 /// the call is made.
 #[derive(Clone, Copy, Debug, PartialEq, Eq)]
 pub enum Call {
-    Point([i32; 9]),
-    Proof([i32; 17]),
+    Point([i32; POINT_NUMBERS]),
+    Proof([i32; PROOF_NUMBERS]),
     // The side is a number, by the rules: it may lie outside its limits, and is judged when the call is made.
     Split { row: i32, side: i32 },
 }

@@ -15,7 +15,3 @@ pub(crate) enum CallKind {
     Proof,
     Split,
 }
-
-/// A number that stands for nothing here.
-#[derive(Clone, Copy, Debug, PartialEq, Eq)]
-pub(crate) struct Unknown;

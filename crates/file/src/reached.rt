@@ -2,6 +2,7 @@
 ghost use Rattle.std.specs.Prelude.{◌≡◌, ℕ, ◌+◌, ◌≤◌, Bool, true, false, length, slice_index_or};
 ghost use Rattle.file.specs.Chains.{has, left};
 
+use crate::call::LARGEST;
 use arrayvec::ArrayVec;
 
 mod marking;
@@ -10,8 +11,8 @@ mod marking;
 /// is found without a search.
 #[derive(Drop)]
 pub(crate) struct Reached {
-    order: ArrayVec<usize, 819>,
-    seen: [bool; 819],
+    order: ArrayVec<usize, LARGEST>,
+    seen: [bool; LARGEST],
     ghost marks: { (k : ℕ) → slice_index_or seen k false ≡ has order.items k },
     ghost room: { length order.items + left seen ≡ 819 },
 }

@@ -46,7 +46,8 @@ pub fn read(bytes: &[u8]) -> Result<Contents, FileFault>
     let records = Records::of(bytes)?;
     records.check_link(Chain::Rows)?;
     records.check_link(Chain::Calls)?;
-    // An arm for each family: the two differ in their types, which no value can choose.
+    // An arm for each family: the two differ in their types, which no value can choose. A number that is no family is an
+    // arm beside them: `map_err` and `?` before the match would be no plainer.
     match FamilyKind::try_from(records.record(0).word(2)) {
         Ok(FamilyKind::Squares) => {
             let (draft, calls) = read_as(Squares, &records)?;

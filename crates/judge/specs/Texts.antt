@@ -4,16 +4,13 @@ use Rattle.std.specs.Fmt.{signed_decimal}
 use Rattle.family.specs.declared.fault.Fault.{Fault}
 use Rattle.family.specs.declared.judgement.Judgement.TheVariants.{Void, Bound}
 use Rattle.family.specs.Denials.{denial_of, denial_text}
-use Rattle.family.specs.Fractions.{Fraction}
+use Rattle.family.specs.Fractions.{Fraction, fraction_text}
 use Rattle.family.specs.Numbers.{at}
 use Rattle.file.specs.declared.call.Call.{Call}
 use Rattle.file.specs.declared.call.Call.TheVariants.{Point, Proof, Split}
 use Rattle.search.specs.declared.outcome.Accepted.{Accepted}
 use Rattle.search.specs.declared.report.Report.{Report}
 use Rattle.search.specs.Texts.{verdict_text}
-
-abbrev pub fraction_text : Fraction → List ℕ
-fraction_text x = signed_decimal x.0 ++ (codes "/" ++ signed_decimal x.1)
 
 abbrev pub outcome_text : Result Accepted Fault → List ℕ
 outcome_text (Ok (Accepted.Taken cost)) = codes "taken " ++ fraction_text cost
@@ -42,14 +39,14 @@ quantity_text None = []
 quantity_text (Some x) = codes " " ++ (signed_decimal x.0 ++ (codes "/" ++ signed_decimal x.1))
 
 -- the quantity with number j of n, counted from 1, in the nine numbers of a point
-abbrev pub quantity_at : ℕ → List ℤ → ℕ → Option (ℤ × ℤ)
-quantity_at n numbers j = cond (nat_le j n) (Some (at numbers j, at numbers 0)) None
+abbrev pub quantity_in : ℕ → List ℤ → ℕ → Option (ℤ × ℤ)
+quantity_in n numbers j = cond (nat_le j n) (Some (at numbers j, at numbers 0)) None
 
 abbrev pub quantities_text : ℕ → List ℤ → List ℕ
 quantities_text n numbers =
-    quantity_text (quantity_at n numbers 1) ++ (quantity_text (quantity_at n numbers 2) ++ (quantity_text (quantity_at n numbers 3)
-    ++ (quantity_text (quantity_at n numbers 4) ++ (quantity_text (quantity_at n numbers 5) ++ (quantity_text (quantity_at n numbers 6)
-    ++ (quantity_text (quantity_at n numbers 7) ++ quantity_text (quantity_at n numbers 8)))))))
+    quantity_text (quantity_in n numbers 1) ++ (quantity_text (quantity_in n numbers 2) ++ (quantity_text (quantity_in n numbers 3)
+    ++ (quantity_text (quantity_in n numbers 4) ++ (quantity_text (quantity_in n numbers 5) ++ (quantity_text (quantity_in n numbers 6)
+    ++ (quantity_text (quantity_in n numbers 7) ++ quantity_text (quantity_in n numbers 8)))))))
 
 abbrev pub counts_text : Report → List ℕ
 counts_text report =

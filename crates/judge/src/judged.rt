@@ -1,6 +1,6 @@
 // What a file comes to.
 use family::fault::Fault;
-use file::call::Calls;
+use file::call::{Calls, LARGEST};
 use search::outcome::Accepted;
 use search::run::Ended;
 
@@ -11,7 +11,7 @@ mod lines;
 pub struct Judged {
     pub quantities: usize,
     pub calls: Calls,
-    // A table beside the calls: `run` writes into a lent slice, and nothing can stand for an outcome before there is one.
-    pub outcomes: [Result<Accepted, Fault>; 819],
+    // A table beside the calls: `run` writes into a lent slice, and a fixed vector asks for a default, which `Result` has none of.
+    pub outcomes: [Result<Accepted, Fault>; LARGEST],
     pub end: Ended,
 }

@@ -23,11 +23,10 @@ fn judge_calls<F: Family + Drop>(family: F, gap: Gap, calls: Calls) -> Judged
     ensures { JudgedBy (F.Family.meaning family) (gap_value gap) (calls_of calls) result }
 {
     let (quantities, _) = family.size();
-    let list = calls.as_slice();
-    let count = list.len();
-    let offers = offers_of(list);
+    let offers = offers_of(&calls);
+    let offers = offers.as_slice();
     let mut outcomes = [Ok(Accepted::Split); LARGEST];
-    let Ok(end) = run(family, gap, &offers[..count], &mut outcomes[..count]) else {
+    let Ok(end) = run(family, gap, offers, &mut outcomes[..offers.len()]) else {
         unreachable()
     };
     Judged {

@@ -4,7 +4,8 @@ ghost use Rattle.file.specs.Contents.{calls_of};
 ghost use Rattle.judge.specs.Problems.{call_made, calls_made};
 ghost use Rattle.search.specs.Runs.{call_of, calls_in};
 
-use file::call::{Call, LARGEST};
+use arrayvec::ArrayVec;
+use file::call::{Call, Calls, LARGEST};
 use search::offer::Offer;
 
 // The offer that a call makes.
@@ -21,16 +22,13 @@ fn offer_of<'a>(call: &'a Call) -> Offer<'a>
     }
 }
 
-// The offers of all calls, in order, at the front of a table.
-pub(crate) fn offers_of<'a>(calls: &'a [Call]) -> [Offer<'a>; LARGEST]
-    requires { length calls.now ≤ 819 }
-    ensures { calls_in (take (length calls.now) result) ≡ calls_made calls.now }
+// The offers of all calls, in order.
+pub(crate) fn offers_of<'a>(calls: &'a Calls) -> ArrayVec<Offer<'a>, LARGEST>
+    ensures { calls_in result.items ≡ calls_made (calls_of calls.now) }
 {
-    let mut offers = [Offer::Split { row: 0, side: 0 }; LARGEST];
-    // No zip of the two, nor `array::from_fn`: the proof did not close, as nothing is known of what a loop writes through a zip, nor
-    // that the closure of `from_fn` holds the same calls at each turn.
-    for (index, call) in calls.iter().enumerate() {
-        offers[index] = offer_of(call);
+    let mut offers = ArrayVec::new();
+    for call in calls.as_slice() {
+        offers.push(offer_of(call));
     }
     offers
 }

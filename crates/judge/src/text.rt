@@ -1,28 +1,17 @@
 // What is printed of a judged file.
 ghost use Rattle.std.specs.Prelude.{◌≡◌, ℕ, ◌<◌, Some};
-ghost use Rattle.judge.specs.Quantities.{quantity_of};
-ghost use Rattle.judge.specs.Texts.{fraction_text, outcome_text, line_text, cost_text, quantity_text, quantities_text, last_text};
+ghost use Rattle.judge.specs.Quantities.{quantity_of, told_point};
+ghost use Rattle.judge.specs.Texts.{outcome_text, line_text, cost_text, quantity_text, quantities_text, last_text};
 
 use family::fault::Fault;
+use family::fraction::Fraction;
 use family::judgement::Judgement;
+use family::sizes::POINT_NUMBERS;
 use file::call::Call;
 use search::outcome::Accepted;
 use search::report::Report;
 use search::run::Ended;
 use std::fmt;
-
-// A cost or a bound.
-#[derive(Clone, Copy)]
-struct Fraction((i64, i64));
-
-impl fmt::Display for Fraction {
-    ghost output = { λ x. Some (fraction_text x.0) };
-
-    fn fmt<W: fmt::Write>(&self, f: &mut fmt::Formatter<W>) -> fmt::Result {
-        let (numerator, denominator) = self.0;
-        write!(f, "{numerator}/{denominator}")
-    }
-}
 
 /// What became of a call.
 #[derive(Clone, Copy)]
@@ -103,7 +92,7 @@ impl fmt::Display for Quantity {
 #[derive(Clone, Copy)]
 struct Quantities {
     count: usize,
-    point: [i32; 9],
+    point: [i32; POINT_NUMBERS],
 }
 
 impl Quantities {
@@ -137,6 +126,21 @@ impl fmt::Display for Quantities {
     }
 }
 
+// A point, or a dash after a space.
+#[derive(Clone, Copy)]
+struct Point(Option<Quantities>);
+
+impl fmt::Display for Point {
+    ghost output = { λ x. Some (told_point x.0) };
+
+    fn fmt<W: fmt::Write>(&self, f: &mut fmt::Formatter<W>) -> fmt::Result {
+        match self.0 {
+            Some(quantities) => write!(f, "{quantities}"),
+            None => write!(f, " -"),
+        }
+    }
+}
+
 /// The last line: the verdict, the cost, the point and the counts.
 #[derive(Clone, Copy)]
 pub struct LastLine {
@@ -155,20 +159,14 @@ impl fmt::Display for LastLine {
             splits,
             closed,
         } = self.end.report;
-        let told = Cost(cost);
-        if cost.is_none() {
-            return write!(
-                f,
-                "{verdict} {told} point - open {open} splits {splits} closed {closed}"
-            );
-        }
-        let quantities = Quantities {
+        let point = Point(cost.map(|_| Quantities {
             count: self.quantities,
             point: self.end.point,
-        };
+        }));
+        let cost = Cost(cost);
         write!(
             f,
-            "{verdict} {told} point{quantities} open {open} splits {splits} closed {closed}"
+            "{verdict} {cost} point{point} open {open} splits {splits} closed {closed}"
         )
     }
 }

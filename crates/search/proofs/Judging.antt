@@ -5,7 +5,7 @@ use Rattle.family.specs.declared.fault.ListFault.TheVariants.{Limit}
 use Rattle.family.specs.declared.side.Side.TheVariants.{Lower, Upper}
 use Rattle.family.specs.Numbers.{same, Numbered}
 use Rattle.family.specs.Sides.{side_number}
-use Rattle.family.specs.declared.side.UnknownSide.{UnknownSide}
+use Rattle.family.specs.declared.unknown.Unknown.{Unknown}
 use Rattle.std.specs.Result.{result_and, result_map_both}
 use Rattle.family.specs.declared.fault.Fault.{Fault}
 use Rattle.family.specs.declared.fault.Fault.TheVariants.{List as in_list, Proof as in_proof, State as in_state}
@@ -31,7 +31,7 @@ not_same : (z : ℤ) (n : ℕ) → (pos n ≡ z → ⊥) → same z (pos n) ≡ 
 not_same (pos k) n h = ne_eqb k n (λ e. h (ap pos (sym e)))
 not_same (negsuc k) n h = refl
 
-side_is : (z : ℤ) (o : Result Side UnknownSide) → Numbered side_number z o → result_map_both (λ side. side) (λ _. in_list (Limit 2)) o ≡ side_named z
+side_is : (z : ℤ) (o : Result Side Unknown) → Numbered side_number z o → result_map_both (λ side. side) (λ _. in_list (Limit 2)) o ≡ side_named z
 side_is z (Err e) h =
     sym (ap (λ b. cond b (Ok Lower) (cond (same z (pos 1)) (Ok Upper) (Err (in_list (Limit 2))))) (not_same z 0 (h Lower))
     ∙ ap (λ b. cond b (Ok Upper) (Err (in_list (Limit 2)))) (not_same z 1 (h Upper)))
@@ -39,11 +39,11 @@ side_is z (Ok Lower) h = ap side_named h
 side_is z (Ok Upper) h = ap side_named h
 
 -- P tells what the closure makes of an error
-pub side_by : {P : UnknownSide → Fault → Type 0} (z : ℤ) (o : Result Side UnknownSide) (r : Result Side Fault) → Numbered side_number z o
-    → MatchResult o (λ side. r ≡ Ok side) (λ e. IsErrAnd r (P e)) → ((e : UnknownSide) (f : Fault) → P e f → f ≡ in_list (Limit 2)) → r ≡ side_named z
+pub side_by : {P : Unknown → Fault → Type 0} (z : ℤ) (o : Result Side Unknown) (r : Result Side Fault) → Numbered side_number z o
+    → MatchResult o (λ side. r ≡ Ok side) (λ e. IsErrAnd r (P e)) → ((e : Unknown) (f : Fault) → P e f → f ≡ in_list (Limit 2)) → r ≡ side_named z
 side_by {P} z o r h m p = by o r m ∙ side_is z o h
   where
-    by : (o : Result Side UnknownSide) (r : Result Side Fault) → MatchResult o (λ side. r ≡ Ok side) (λ e. IsErrAnd r (P e)) → r ≡ result_map_both (λ side. side) (λ _. in_list (Limit 2)) o
+    by : (o : Result Side Unknown) (r : Result Side Fault) → MatchResult o (λ side. r ≡ Ok side) (λ e. IsErrAnd r (P e)) → r ≡ result_map_both (λ side. side) (λ _. in_list (Limit 2)) o
     by (Ok side) r e = e
     by (Err e) (Ok side) n = elim n [ ]
     by (Err e) (Err f) q = ap Err (p e f q)

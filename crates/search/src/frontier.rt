@@ -6,6 +6,7 @@ mod growing;
 mod node;
 mod signed_row;
 
+use family::sizes::ROWS;
 use node::Node;
 use signed_row::SignedRow;
 
@@ -15,9 +16,9 @@ use signed_row::SignedRow;
 #[derive(Clone, Copy)]
 pub(crate) struct Frontier {
     // Tables with a height: a rule of the project, as a search has fixed memory and stands on `family` alone.
-    stack: [Node; 17],
+    stack: [Node; ROWS + 1],
     height: usize,
-    path: [SignedRow; 16],
+    path: [SignedRow; ROWS],
     closed: u32,
     splits: u32,
     ghost low: { height ≤ 17 },

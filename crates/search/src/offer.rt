@@ -1,4 +1,5 @@
 // What is offered to a search.
+mod blank;
 
 /// A point or a proof as a list of numbers, or a split by a row, counted from 1, and a side, 0 lower and 1 upper.
 #[derive(Clone, Copy, PartialEq, Eq, Debug)]

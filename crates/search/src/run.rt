@@ -12,12 +12,13 @@ use crate::search::Search;
 use family::Family;
 use family::fault::{Fault, ListFault};
 use family::gap::Gap;
+use family::sizes::POINT_NUMBERS;
 
 /// The report of a search that is over, and the nine numbers of the held point, all 0 if there is none.
 #[derive(Clone, Copy, PartialEq, Eq, Debug)]
 pub struct Ended {
     pub report: Report,
-    pub point: [i32; 9],
+    pub point: [i32; POINT_NUMBERS],
 }
 
 /// Opens a family and a gap, makes all offers in order, writes what became of each into the place, and stops. A
@@ -40,7 +41,7 @@ pub fn run<F: Family + Drop>(
         outcomes[index] = search.offer(*offer);
     }
     let stopped = search.stop();
-    let mut point = [0; 9];
+    let mut point = [0; POINT_NUMBERS];
     let report = stopped.read(&mut point)?;
     Ok(Ended { report, point })
 }

@@ -28,6 +28,7 @@ pub(crate) fn in_record(r: usize, answer: Result<(), Fault>) -> Result<(), FileF
 fn call(entry: &Record) -> Result<Call, FileFault>
     ensures { result ≡ call_in (words_of entry.now) entry.now.at }
 {
+    // An unknown kind is an arm beside the others: `map_err` and `?` before the match would be no plainer.
     match CallKind::try_from(entry.word(1)) {
         Ok(CallKind::Point) => Ok(Call::Point(entry.list(2)?)),
         Ok(CallKind::Proof) => Ok(Call::Proof(entry.list(2)?)),
@@ -49,6 +50,7 @@ impl<C: Cost> Grows for Draft<C> {
     ghost added = { row_added };
 
     fn add(&mut self, entry: &Record) -> Result<(), FileFault> {
+        // Only whether there is such a kind is asked here, so there is no kind that `?` could hand on.
         if Kind::try_from(entry.word(1)).is_err() {
             return Err(FileFault::Kind { at: entry.at });
         }

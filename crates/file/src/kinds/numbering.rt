@@ -3,7 +3,8 @@ ghost use Rattle.std.specs.Prelude.{◌≡◌, pos};
 ghost use Rattle.family.specs.Numbers.{Numbered};
 ghost use Rattle.file.specs.Kinds.{family_number, call_number};
 
-use crate::kinds::{CallKind, FamilyKind, Unknown};
+use crate::kinds::{CallKind, FamilyKind};
+use family::unknown::Unknown;
 
 impl TryFrom<i32> for FamilyKind {
     type Error = Unknown;

@@ -3,6 +3,7 @@ ghost use Rattle.std.specs.Prelude.{◌≡◌, ℕ, ◌+◌, ◌<◌, ◌≤◌,
 ghost use Rattle.file.specs.Chains.{has};
 ghost use Rattle.file.specs.Walks.{reached_in};
 
+use crate::call::LARGEST;
 use crate::reached::Reached;
 use arrayvec::ArrayVec;
 
@@ -13,7 +14,7 @@ impl Reached {
     {
         Reached {
             order: ArrayVec::new(),
-            seen: [false; 819],
+            seen: [false; LARGEST],
         }
     }
 

@@ -35,6 +35,7 @@ impl Record<'_> {
         requires { from ≤ 20 }
         ensures { result ≡ unused (words_of self.now) self.now.at from }
     {
+        // A match, as `map_or` with a good answer and a closure that gives the bad one would be no plainer.
         match self.first_used(from) {
             Some(word) => Err(FileFault::Unused { at: self.at, word }),
             None => Ok(()),
@@ -100,6 +101,7 @@ impl<'a> Records<'a> {
     fn target(&self, link: i32) -> Option<usize>
         ensures { result ≡ targeted link self.now.count }
     {
+        // The cases of its definition; `ok().filter(..)` would need a proof beside it and be no plainer.
         match usize::try_from(link) {
             Ok(k) if k < self.count => Some(k),
             _ => None,
@@ -111,10 +113,9 @@ impl<'a> Records<'a> {
         ensures { result ≡ linked (words_in self.now) self.now.count (first_word chain) }
     {
         let word = chain.first();
-        match self.target(self.record(0).word(word)) {
-            Some(_) => Ok(()),
-            None => Err(FileFault::Link { at: 0, word }),
-        }
+        self.target(self.record(0).word(word))
+            .ok_or(FileFault::Link { at: 0, word })?;
+        Ok(())
     }
 
     // Where the link in word w of record r leads: to a record that was not reached before, or to the end.

@@ -10,6 +10,7 @@ use crate::frontier::node::Node;
 use crate::frontier::signed_row::SignedRow;
 use family::side::Side;
 use family::sides::Sides;
+use family::sizes::ROWS;
 
 impl Frontier {
     // The root alone is open.
@@ -17,9 +18,9 @@ impl Frontier {
         ensures { Rooted result }
     {
         Frontier {
-            stack: [Node::ROOT; 17],
+            stack: [Node::ROOT; ROWS + 1],
             height: 1,
-            path: [SignedRow::NOWHERE; 16],
+            path: [SignedRow::NOWHERE; ROWS],
             closed: 0,
             splits: 0,
         }
@@ -84,6 +85,7 @@ impl Frontier {
         requires loose { OnTop (λ s. s row ≡ None) (nodes_of self.old) }
         ensures { Forked row side self.old self.new }
     {
+        // An index with its limit and no type of its own: it would be made by the one caller and taken apart here.
         let top = self.top();
         let depth = top.depth + 1;
         let named = SignedRow::of(row, side);

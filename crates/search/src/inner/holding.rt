@@ -11,6 +11,7 @@ use crate::inner::Inner;
 use crate::ratio::Ratio;
 use family::gap::Gap;
 use family::judgement::Judgement;
+use family::sizes::POINT_NUMBERS;
 
 impl Inner {
     // The root is open, and no point is held.
@@ -49,7 +50,8 @@ impl Inner {
         requires { length list.now ≡ 9 }
         ensures { Holding list.now (pair_of cost) self.old self.new }
     {
-        let mut point = [0; 9];
+        // Copied, and not by `try_from`, which would ask for a failure that can't happen.
+        let mut point = [0; POINT_NUMBERS];
         point.copy_from_slice(list);
         self.held = Some(Held { point, cost });
     }

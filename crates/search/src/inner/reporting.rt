@@ -6,6 +6,7 @@ ghost use Rattle.search.specs.View.{nodes_of};
 
 use crate::inner::Inner;
 use crate::report::{Report, Verdict};
+use family::sizes::POINT_NUMBERS;
 
 impl Inner {
     // Stopped if a node is open, else best if a point is held, else none.
@@ -42,13 +43,13 @@ impl Inner {
     }
 
     // The nine numbers of the held point, all 0 if there is none.
-    pub(crate) fn numbers(&self) -> [i32; 9]
+    pub(crate) fn numbers(&self) -> [i32; POINT_NUMBERS]
         ensures { result ≡ numbers_in self.now }
     {
         // No `map_or`: the proof did not close over a closure that gives an array.
         match self.held {
             Some(held) => held.point,
-            None => [0; 9],
+            None => [0; POINT_NUMBERS],
         }
     }
 }

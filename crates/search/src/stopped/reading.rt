@@ -10,8 +10,7 @@ use crate::search::Search;
 use crate::stopped::Stopped;
 use family::Family;
 use family::fault::{Fault, ListFault};
-
-const NUMBERS: usize = 9;
+use family::sizes::POINT_NUMBERS;
 
 impl<F: Family> Search<F> {
     /// Ends the search, which is used up. It never refuses.
@@ -31,7 +30,7 @@ impl<F: Family> Stopped<F> {
         ensures place { place.new ≡ (if nat_eq (length place.old) 9 then numbers_in self.now.search.inner else place.old) }
         ensures ends { IfOk result (λ report. AfterAny (F.Family.meaning self.now.search.family) (gap_value self.now.search.gap) self.now.search.inner report place.new) }
     {
-        if place.len() != NUMBERS {
+        if place.len() != POINT_NUMBERS {
             return Err(ListFault::Length.into());
         }
         let numbers = self.search.inner.numbers();

@@ -16,6 +16,7 @@ impl SignedRow {
         requires { row < 16 }
         ensures { result.number ≡ signed_row row side }
     {
+        // An index with its limit and no type of its own: it would be made by the one caller and taken apart here.
         let number = row as i8 + 1;
         match side {
             Side::Lower => SignedRow { number: -number },
