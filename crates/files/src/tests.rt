@@ -27,6 +27,7 @@ const ACCEPTED: Answer = None;
 type Changes = &'static [(usize, usize, i32)];
 
 // The numbers, and then zeros up to N.
+// Also in the tests of searches: a crate for two small helpers of tests would be no plainer.
 fn padded<const N: usize>(numbers: &[i32]) -> [i32; N] {
     let mut list = [0; N];
     for (place, number) in list.iter_mut().zip(numbers) {
@@ -62,10 +63,9 @@ fn changed(changes: Changes) -> [Record; 8] {
 
 // The byte of a file with this index: words low byte first, and zeros after the records.
 fn byte_at(records: &[Record], index: usize) -> u8 {
-    match records.get(index / 80) {
-        Some(record) => record[index / 4 % 20].to_le_bytes()[index % 4],
-        None => 0,
-    }
+    records.get(index / 80).map_or(0, |record| {
+        record[index / 4 % 20].to_le_bytes()[index % 4]
+    })
 }
 
 // Fills the place with the bytes of the records, and then zeros.
@@ -75,19 +75,16 @@ fn put_file(records: &[Record], place: &mut [u8]) {
     }
 }
 
-fn told(fault: FileFault) -> Answer {
+fn told(fault: FileFault) -> (u8, usize, usize, Layer) {
     let Refusal {
         number,
         at,
         place,
         layer,
     } = fault.refusal();
-    Some((number, at, place, layer))
+    (number, at, place, layer)
 }
 
 fn answer_to(bytes: &[u8]) -> Answer {
-    match read(bytes) {
-        Ok(_) => ACCEPTED,
-        Err(fault) => told(fault),
-    }
+    read(bytes).err().map(told)
 }

@@ -34,6 +34,7 @@ fn list_of<const N: usize>(changes: Changes) -> [i32; N] {
     list
 }
 
+// Also in the tests of searches: a crate for two small helpers of tests would be no plainer.
 fn told(fault: Fault) -> (u8, usize, Layer) {
     let Denial {
         number,
@@ -44,10 +45,7 @@ fn told(fault: Fault) -> (u8, usize, Layer) {
 }
 
 fn answer_to<T: Drop, E: Into<Fault> + Drop>(res: Result<T, E>) -> Answer {
-    match res {
-        Ok(_) => TAKEN,
-        Err(fault) => Some(told(fault.into())),
-    }
+    res.err().map(|fault| told(fault.into()))
 }
 
 fn check_answer(rt: &impl Abort, got: Answer, answer: Answer, changes: Changes) {

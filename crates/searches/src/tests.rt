@@ -59,6 +59,7 @@ fn bound(numerator: i64, denominator: i64) -> Told {
 const UNTOUCHED: Result<Accepted, Fault> = Err(Fault::List(ListFault::Kind));
 
 // The numbers, and then zeros up to N.
+// Also in the tests of files: a crate for two small helpers of tests would be no plainer.
 fn padded<const N: usize>(numbers: &[i32]) -> [i32; N] {
     let mut list = [0; N];
     for (place, number) in list.iter_mut().zip(numbers) {
@@ -75,6 +76,7 @@ fn proof(numbers: &[i32]) -> [i32; 17] {
     padded(numbers)
 }
 
+// Also in the tests of limits: a crate for two small helpers of tests would be no plainer.
 fn denial_of(fault: Fault) -> Denied {
     let Denial {
         number,
@@ -138,8 +140,8 @@ fn check_outcomes<const N: usize>(
     outcomes: [Result<Accepted, Fault>; N],
     expected: [Told; N],
 ) -> Result<(), Fail> {
-    for (outcome, expected) in outcomes.iter().zip(&expected) {
-        assert_eq!(rt; passed(*outcome), *expected);
+    for (index, (outcome, expected)) in outcomes.iter().zip(&expected).enumerate() {
+        assert_eq!(rt; passed(*outcome), *expected, "outcome {index}");
     }
     Ok(())
 }

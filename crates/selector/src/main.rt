@@ -30,23 +30,23 @@ const SQUARES_POINTS: [[i32; 3]; 4] = [[1, 3, 0], [2, 6, 0], [1, 0, 0], [2, 3, 3
 
 const LINEAR_POINTS: [[i32; 3]; 1] = [[1, 0, 4]];
 
-/// A scale and three multipliers, and the index and the side of the row that is fixed, if one is, with what is printed of that.
-type OfferedProof = ([i32; 4], Option<(usize, Side, &'static str)>);
+/// A scale and three multipliers, and the row that is fixed, counted from 1, and its side, if one is.
+type OfferedProof = ([i32; 4], Option<(u8, Side)>);
 
 const SQUARES_PROOFS: [OfferedProof; 5] = [
     ([2, 0, 0, -3], None),
     ([1, 3, 0, -3], None),
-    ([1, 3, 0, -3], Some((0, Side::Lower, "with row 1 lower "))),
+    ([1, 3, 0, -3], Some((1, Side::Lower))),
     ([1, -3, 0, 0], None),
-    ([1, -3, 0, 0], Some((0, Side::Upper, "with row 1 upper "))),
+    ([1, -3, 0, 0], Some((1, Side::Upper))),
 ];
 
 const LINEAR_PROOFS: [OfferedProof; 5] = [
     ([1, -1, 0, -1], None),
     ([1, 0, 0, 0], None),
-    ([1, 0, 1, -2], Some((1, Side::Lower, "with row 2 lower "))),
+    ([1, 0, 1, -2], Some((2, Side::Lower))),
     ([1, -2, -1, 0], None),
-    ([1, -2, -1, 0], Some((1, Side::Upper, "with row 2 upper "))),
+    ([1, -2, -1, 0], Some((2, Side::Upper))),
 ];
 
 // The sample problem as a draft of a cost.
@@ -87,19 +87,33 @@ fn show_point<F: Family>(rt: &HostRuntime, family: &F, point: [i32; 3]) -> io::R
     }
 }
 
+// The sides with one row fixed, if one is, and every other free.
+fn sides_of(fixed: Option<(u8, Side)>) -> Sides {
+    fixed.map_or(Sides::all_free(), |(row, side)| {
+        Sides::all_free().fix(usize::from(row).saturating_sub(1), side)
+    })
+}
+
+fn word_of(side: Side) -> &'static str {
+    match side {
+        Side::Lower => "lower",
+        Side::Upper => "upper",
+    }
+}
+
 fn show_proof<F: Family>(
     rt: &HostRuntime,
     family: &F,
     (proof, fixed): OfferedProof,
 ) -> io::Result<()> {
     let [s, a, b, c] = proof;
-    let (sides, told) = match fixed {
-        Some((row, side, told)) => (Sides::all_free().fix(row, side), told),
-        None => (Sides::all_free(), ""),
-    };
-    print!(rt; "proof {s}; {a}, {b}, {c} {told}")?;
+    print!(rt; "proof {s}; {a}, {b}, {c} ")?;
+    if let Some((row, side)) = fixed {
+        let word = word_of(side);
+        print!(rt; "with row {row} {word} ")?;
+    }
     let list = [s, a, b, c, 0, 0, 0, 0, 0, 0, 0, 0, 0, 0, 0, 0, 0];
-    match judge_proof(family, sides, &list) {
+    match judge_proof(family, sides_of(fixed), &list) {
         Ok(Judgement::Void) => println!(rt; "is void"),
         Ok(Judgement::Bound((numerator, denominator))) => {
             println!(rt; "bounds {numerator}/{denominator}")
@@ -125,6 +139,7 @@ fn show_family<F: Family>(
 
 fn main(rt: HostRuntime) -> io::Result<()> {
     println!(rt; "squares")?;
+    // An arm for each family: the two differ in their types, which no value can choose.
     match sample(Squares, &SQUARES_HEADER) {
         Ok(draft) => {
             let (family, _) = LeastSquares::from_draft(draft);

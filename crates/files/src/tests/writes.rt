@@ -24,8 +24,8 @@ fn check_draft<C: Cost>(
 ) -> Result<(), Fail> {
     assert_eq!(rt; &draft.header_list()[..], &records[0][3..13]);
     assert_eq!(rt; draft.row_count(), 3);
-    for row in 0..3 {
-        assert_eq!(rt; &draft.row_list(row)[..], &records[row + 1][1..12]);
+    for (row, record) in records[1..4].iter().enumerate() {
+        assert_eq!(rt; &draft.row_list(row)[..], &record[1..12]);
     }
     Ok(())
 }

@@ -117,12 +117,9 @@ fn has_row(problem: &Problem, row: usize, list: &[i32]) -> bool {
         return false;
     };
     let kept = problem.row(row);
-    for (column, number) in coefficients.iter().enumerate() {
-        if problem.coefficient(row, column) != i64::from(*number) {
-            return false;
-        }
-    }
+    let mut numbers = coefficients.iter().enumerate();
     (i32::from(kept.kind), kept.lo, kept.hi) == (*kind, *lo, *hi)
+        && numbers.all(|(column, number)| problem.coefficient(row, column) == i64::from(*number))
 }
 
 // Whether a draft has the numbers of a header and these rows, and no more.
@@ -131,19 +128,17 @@ fn holds<C: Cost + Drop>(draft: Draft<C>, header: &[i32], rows: &[[i32; 11]]) ->
     let [n, size, numbers @ ..] = header else {
         return false;
     };
-    for (index, number) in numbers.iter().enumerate() {
-        if rates.rate(index) != i64::from(*number) {
-            return false;
-        }
-    }
-    for (index, row) in rows.iter().enumerate() {
-        if !has_row(&problem, index, row) {
-            return false;
-        }
-    }
     problem.quantities() as i64 == i64::from(*n)
         && i64::from(gap.value()) == i64::from(*size)
         && problem.row_count() == rows.len()
+        && numbers
+            .iter()
+            .enumerate()
+            .all(|(index, number)| rates.rate(index) == i64::from(*number))
+        && rows
+            .iter()
+            .enumerate()
+            .all(|(index, row)| has_row(&problem, index, row))
 }
 
 fn check_held(rt: &impl Abort, held: bool, changes: Changes) {
