@@ -3,6 +3,7 @@
 
 use family::Family;
 use family::fault::Fault;
+use family::fraction::Fraction;
 use family::judgement::Judgement;
 use family::point::Point;
 use family::proof::Proof;
@@ -82,12 +83,12 @@ fn show_point<F: Family>(rt: &HostRuntime, family: &F, point: [i32; 3]) -> io::R
     let [q, first, second] = point;
     print!(rt; "point {q}; {first}, {second} ")?;
     match judge_point(family, &[q, first, second, 0, 0, 0, 0, 0, 0]) {
-        Ok((numerator, denominator)) => println!(rt; "costs {numerator}/{denominator}"),
+        Ok(cost) => println!(rt; "costs {}", Fraction(cost)),
         Err(fault) => show_fault(rt, fault),
     }
 }
 
-// The sides with one row fixed, if one is, and every other free.
+// The sides with one row, counted from 1, at its side if one is fixed, and every other free.
 fn sides_of(fixed: Option<(u8, Side)>) -> Sides {
     fixed.map_or(Sides::all_free(), |(row, side)| {
         Sides::all_free().fix(usize::from(row).saturating_sub(1), side)
@@ -115,9 +116,7 @@ fn show_proof<F: Family>(
     let list = [s, a, b, c, 0, 0, 0, 0, 0, 0, 0, 0, 0, 0, 0, 0, 0];
     match judge_proof(family, sides_of(fixed), &list) {
         Ok(Judgement::Void) => println!(rt; "is void"),
-        Ok(Judgement::Bound((numerator, denominator))) => {
-            println!(rt; "bounds {numerator}/{denominator}")
-        }
+        Ok(Judgement::Bound(bound)) => println!(rt; "bounds {}", Fraction(bound)),
         Err(fault) => show_fault(rt, fault),
     }
 }
