@@ -36,6 +36,7 @@ impl LinearCosts {
     }
 }
 
+// Each family implements the interface itself, by a rule of the project; the four calls into `rows` are alike in both.
 impl Family for LinearCosts {
     ghost meaning = { λ f. meaning_of (program f.problem) (at f.rates.numbers) };
 

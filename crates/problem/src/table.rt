@@ -13,6 +13,7 @@ mod reading;
 /// n quantities and m rows. What is not in use of the table and the matrix is blank.
 #[derive(Drop)]
 pub struct Problem {
+    // A plain number with its limits, as in a header: a type of its own would be taken apart at each use.
     n: usize,
     // A count beside a table with room for every row, by the rule that a draft keeps a table of rows in fixed memory.
     m: usize,

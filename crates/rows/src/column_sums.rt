@@ -1,5 +1,5 @@
 // The column sums of a proof.
-ghost use Rattle.std.specs.Prelude.{◌≡◌, ℕ, ◌≤◌, ℤ, unsigned_abs};
+ghost use Rattle.std.specs.Prelude.{◌≡◌, ℕ, ◌≤◌, ℤ, pos, unsigned_abs};
 ghost use Rattle.family.specs.Numbers.{at, Small};
 ghost use Rattle.family.specs.Points.{numerator_of};
 ghost use Rattle.problem.specs.Programs.{program};
@@ -35,7 +35,8 @@ fn column_sum(problem: &Problem, proof: &Proof, column: usize) -> i64
 impl ColumnSums {
     /// The column sums of a proof.
     pub fn of(problem: &Problem, proof: &Proof) -> ColumnSums
-        ensures { (j : ℕ) → at result.sums j ≡ column_sum (program problem.now) (numerator_of proof.now) j }
+        ensures sums { (j : ℕ) → at result.sums j ≡ column_sum (program problem.now) (numerator_of proof.now) j }
+        ensures fillers { (j : ℕ) → (program problem.now).n ≤ j → at result.sums j ≡ pos 0 }
     {
         ColumnSums {
             sums: array::from_fn(|column| column_sum(problem, proof, column)),

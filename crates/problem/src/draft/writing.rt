@@ -31,6 +31,7 @@ impl<C: Cost> Draft<C> {
         ensures after { Grown result (data_of self.old) (data_of self.new) (with_header (data_of self.old) list.now) }
         ensures denied { is_err result ≡ true → self.new ≡ self.old }
     {
+        // What a denial leaves is said of this function's own state; no type holds it.
         let header = Header::read(self.cost.rated(), list)?;
         if self.problem.row_count() > 0 {
             return Err(StateFault::HasRows.into());
@@ -47,6 +48,7 @@ impl<C: Cost> Draft<C> {
         ensures after { Grown result (data_of self.old) (data_of self.new) (with_listed_row (data_of self.old) list.now) }
         ensures denied { is_err result ≡ true → self.new ≡ self.old }
     {
+        // What a denial leaves is said of this function's own state; no type holds it.
         let new = NewRow::read(self.problem.quantities(), list)?;
         self.problem.push(new)?;
         Ok(())

@@ -10,7 +10,9 @@ impl Default for Matrix {
     ghost is_default = { λ m. m.cells ≡ replicate 128 (pos 0) };
 
     fn default() -> Matrix {
-        Matrix { cells: [0; 128] }
+        Matrix {
+            cells: [0; ROWS * QUANTITIES],
+        }
     }
 }
 
@@ -22,8 +24,8 @@ impl Matrix {
         if row >= ROWS {
             return None;
         }
-        let first = 8 * row;
-        Some(&self.cells[first..first + 8])
+        let first = QUANTITIES * row;
+        Some(&self.cells[first..first + QUANTITIES])
     }
 
     // The coefficient in this row and column; 0 beyond the matrix.
@@ -35,7 +37,7 @@ impl Matrix {
     }
 
     // The eight coefficients of this row; all 0 beyond the matrix.
-    pub(crate) fn coefficients(&self, row: usize) -> [i32; 8]
+    pub(crate) fn coefficients(&self, row: usize) -> [i32; QUANTITIES]
         ensures { result ≡ cond (nat_lt row 16) (row_cells self.now.cells row) (replicate 8 (pos 0)) }
     {
         let mut coefficients = [0; QUANTITIES];
@@ -50,7 +52,8 @@ impl Matrix {
         requires { row < 16 }
         ensures { self.new.cells ≡ with_row self.old.cells row coefficients.now.numbers }
     {
-        let from = 8 * row;
-        self.cells[from..from + 8].copy_from_slice(&coefficients.numbers);
+        // An index with its limit and no type of its own: it would be made by the one caller and taken apart here.
+        let from = QUANTITIES * row;
+        self.cells[from..from + QUANTITIES].copy_from_slice(&coefficients.numbers);
     }
 }

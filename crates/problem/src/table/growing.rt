@@ -31,6 +31,7 @@ impl Problem {
         requires none { self.old.m ≡ 0 }
         ensures { problem_data self.new ≡ with_quantities (problem_data self.old) n }
     {
+        // The number of quantities is a plain number with its limits, as in a header.
         self.n = n;
     }
 
@@ -41,6 +42,7 @@ impl Problem {
         ensures after { Grown result (problem_data self.old) (problem_data self.new) (with_new_row (problem_data self.old) (row_data new.row) new.coefficients.numbers) }
         ensures denied { is_err result ≡ true → self.new ≡ self.old }
     {
+        // What a denial leaves is said of this function's own state; no type holds it.
         if self.m >= ROWS {
             return Err(StateFault::Full);
         }

@@ -44,7 +44,7 @@ impl Restriction<'_> {
             columns: ColumnSums::of(self.problem, proof),
             level: self.level(proof),
         };
-        if duals.is_void() { None } else { Some(duals) }
+        (!duals.is_void()).then_some(duals)
     }
 }
 
