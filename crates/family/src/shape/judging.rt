@@ -64,6 +64,7 @@ impl Shape {
     fn limits(self, index: usize) -> Option<Limits>
         ensures { result ≡ limits_at self index }
     {
+        // The limits are written out: the table is read beside its definition, and names for its numbers would hide them.
         match (self, index) {
             (Shape::Point { .. } | Shape::Proof { .. }, 0) => Some(Limits {
                 low: 1,

@@ -22,6 +22,7 @@ impl Coefficients {
         requires small { Small 50 judged.now }
         ensures { result.numbers ≡ judged.now }
     {
+        // Copied, and not by `try_from`, which would answer a Result that cannot fail here.
         let mut numbers = [0; QUANTITIES];
         numbers.copy_from_slice(judged);
         Coefficients { numbers }

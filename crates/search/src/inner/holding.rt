@@ -50,7 +50,7 @@ impl Inner {
         requires { length list.now ≡ 9 }
         ensures { Holding list.now (pair_of cost) self.old self.new }
     {
-        // Copied, and not by `try_from`, which would ask for a failure that can't happen.
+        // Copied, and not by `try_from`, which would answer a Result that cannot fail here.
         let mut point = [0; POINT_NUMBERS];
         point.copy_from_slice(list);
         self.held = Some(Held { point, cost });
