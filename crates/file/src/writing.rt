@@ -22,6 +22,7 @@ fn write_as<C: Cost>(draft: &Draft<C>, family: FamilyKind, place: &mut [u8]) -> 
     ensures answer { result ≡ write_answer (length place.old) (data_of draft.now).problem.m }
     ensures written { MatchResult result (λ _. Written place.old place.new (data_of draft.now).problem.m (pos (family_number family)) (header_list (C.Cost.rated draft.now.cost) (data_of draft.now)) (listed_row (data_of draft.now))) (λ _. place.new ≡ place.old) }
 {
+    // `as usize` of a small number, and not `from`: the proof did not close over what a conversion gives.
     let m = draft.row_count() as u8;
     if place.len() < BYTES * (m as usize + 1) {
         return Err(ListFault::Length.into());

@@ -33,6 +33,7 @@ pub(crate) fn put_row(place: &mut [u8], i: u8, m: u8, list: &[i32])
     requires eleven { length list.now ≡ 11 }
     ensures { Puts place.old place.new (20 * i) (row_words i m list.now) }
 {
+    // `as usize`, and not `from`: the proof did not close over what a conversion gives.
     let first = WORDS * i as usize;
     words::put(place, first, link_after(i, m));
     words::put_list(place, first + 1, list);
