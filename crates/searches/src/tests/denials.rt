@@ -43,13 +43,11 @@ fn check_denied<T: Drop>(
     res: Result<T, Fault>,
     expected: Denied,
 ) -> Result<(), Fail> {
-    match res {
-        Ok(_) => Err(Fail::new("the call was accepted")),
-        Err(fault) => {
-            assert_eq!(rt; denial_of(fault), expected);
-            Ok(())
-        },
-    }
+    let Err(fault) = res else {
+        return Err(Fail::new("the call was accepted"));
+    };
+    assert_eq!(rt; denial_of(fault), expected);
+    Ok(())
 }
 
 #[test]

@@ -85,13 +85,11 @@ fn check_refused(rt: &impl Abort, place: &mut [Result<Accepted, Fault>]) -> Resu
     let (family, gap) = sample(0)?;
     let found = point(&[1, 3, 0]);
     let offers = [Offer::Point(&found), Offer::Split { row: 1, side: 0 }];
-    match run(family, gap, &offers, place) {
-        Ok(_) => Err(Fail::new("the place was taken")),
-        Err(fault) => {
-            assert_eq!(rt; denial_of(fault), (1, 0, LIST));
-            Ok(())
-        },
-    }
+    let Err(fault) = run(family, gap, &offers, place) else {
+        return Err(Fail::new("the place was taken"));
+    };
+    assert_eq!(rt; denial_of(fault), (1, 0, LIST));
+    Ok(())
 }
 
 // A place that is longer or shorter than the offers is left as it was.
