@@ -25,7 +25,7 @@ pub record AnyPoint : Type 0 where
   pub q : ℕ
   pub p : ℕ → ℤ
 
--- an offered point as a point
+-- an offered point as a point: a reading, not a fact of a type, so that contracts speak of values
 abbrev pub any_point : Point → AnyPoint
 any_point x = record { q = denominator_of x; p = numerator_of x }
 

@@ -43,6 +43,7 @@ pub trait Family {
         ensures { result ≡ (meaning self.now).switch row };
 
     /// The cost of a point that is admitted under sides, or why it is not.
+    // A pair, as every cost and bound is, by a rule of the project.
     fn judge_point(&self, sides: Sides, point: &Point) -> Result<(i64, i64), PointFault>
         ensures { result ≡ (meaning self.now).judge_point (side_of sides) (any_point point.now) };
 

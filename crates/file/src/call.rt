@@ -7,6 +7,9 @@ mod blank;
 /// As many records as a file has at most, and so as many calls.
 pub const LARGEST: usize = 819;
 
+/// As many bytes as a record has.
+pub const BYTES: usize = 80;
+
 /// The numbers of a point or a proof, or the row and the side of a split, as the file has them: they are judged when
 /// the call is made.
 #[derive(Clone, Copy, Debug, PartialEq, Eq)]

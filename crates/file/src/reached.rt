@@ -11,6 +11,7 @@ mod marking;
 /// is found without a search.
 #[derive(Drop)]
 pub(crate) struct Reached {
+    // No code reads the order: a walk's contract speaks of the list of records that it reached, which this is.
     order: ArrayVec<usize, LARGEST>,
     seen: [bool; LARGEST],
     ghost marks: { (k : ℕ) → slice_index_or seen k false ≡ has order.items k },

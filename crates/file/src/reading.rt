@@ -14,6 +14,7 @@ use crate::fault::FileFault;
 use crate::kinds::FamilyKind;
 use crate::reached::Reached;
 use crate::records::{Chain, Records};
+use family::sizes::HEADER_NUMBERS;
 use problem::cost::{Cost, Linear, Squares};
 use problem::draft::Draft;
 
@@ -21,7 +22,7 @@ use problem::draft::Draft;
 fn header<C: Cost + Drop>(cost: C, records: &Records) -> Result<Draft<C>, FileFault>
     ensures { result_map_both data_of (λ e. e) result ≡ headed cost (C.Cost.rated cost) (words_in records.now) }
 {
-    let list: [i32; 10] = records.record(0).list(3)?;
+    let list: [i32; HEADER_NUMBERS] = records.record(0).list(3)?;
     let mut draft = Draft::new(cost);
     in_record(0, draft.header(&list))?;
     Ok(draft)

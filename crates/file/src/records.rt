@@ -6,12 +6,11 @@ mod reading;
 /// As many words as a record has.
 pub(crate) const WORDS: usize = 20;
 
-/// As many bytes as a record has.
-pub(crate) const BYTES: usize = 80;
-
 /// The bytes of a file: from 1 to 819 records of twenty words each.
 #[derive(Clone, Copy)]
 pub(crate) struct Records<'a> {
+    // Bytes and a count, not a slice of records: the definitions go by the words of the whole file, and each word would have to
+    // be found again in its record.
     bytes: &'a [u8],
     count: usize,
     ghost some: { 0 < count },

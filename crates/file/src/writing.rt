@@ -7,9 +7,9 @@ ghost use Rattle.file.specs.Kinds.{family_number};
 ghost use Rattle.file.specs.Trips.{RoundTrip};
 ghost use Rattle.file.specs.Written.{rows_in, write_answer, Written, WrittenAs};
 
+use crate::call::BYTES;
 use crate::contents::AnyDraft;
 use crate::kinds::FamilyKind;
-use crate::records::BYTES;
 use family::fault::{Fault, ListFault};
 use problem::cost::Cost;
 use problem::draft::Draft;

@@ -27,7 +27,7 @@ const ACCEPTED: Answer = None;
 type Changes = &'static [(usize, usize, i32)];
 
 // The numbers, and then zeros up to N.
-// Also in the tests of searches: a crate for two small helpers of tests would be no plainer.
+// Also in the tests of searches: a crate for two small functions would be no plainer.
 fn padded<const N: usize>(numbers: &[i32]) -> [i32; N] {
     let mut list = [0; N];
     for (place, number) in list.iter_mut().zip(numbers) {
@@ -54,8 +54,8 @@ fn sample() -> [Record; 8] {
 fn changed(changes: Changes) -> [Record; 8] {
     let mut records = sample();
     for (at, word, number) in changes {
-        if *at < 8 && *word < 20 {
-            records[*at][*word] = *number;
+        if let Some(cell) = records.get_mut(*at).and_then(|record| record.get_mut(*word)) {
+            *cell = *number;
         }
     }
     records

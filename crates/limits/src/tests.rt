@@ -27,14 +27,14 @@ fn list_of<const N: usize>(changes: Changes) -> [i32; N] {
         *first = 1;
     }
     for (place, number) in changes {
-        if 1 <= *place && *place <= N {
+        if (1..=N).contains(place) {
             list[*place - 1] = *number;
         }
     }
     list
 }
 
-// Also in the tests of searches: a crate for two small helpers of tests would be no plainer.
+// Also in the tests of searches: a crate for two small functions would be no plainer.
 fn told(fault: Fault) -> (u8, usize, Layer) {
     let Denial {
         number,

@@ -51,6 +51,7 @@ impl Family for LinearCosts {
     }
 
     fn judge_point(&self, sides: Sides, point: &Point) -> Result<(i64, i64), PointFault> {
+        // A plain struct of two public fields, made by their names: a function that makes it would be no plainer.
         let restriction = Restriction {
             problem: &self.problem,
             sides,

@@ -13,7 +13,7 @@ pub record Program : Type 0 where
   pub hi : ℕ → ℤ
   pub coefficient : ℕ → ℕ → ℤ
 
--- the program that a problem holds
+-- the program that a problem holds: a reading, not a fact of a type, so that contracts speak of values
 abbrev pub program : Problem → Program
 program p = record {
   n = p.n;

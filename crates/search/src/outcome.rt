@@ -5,6 +5,7 @@ use family::judgement::Judgement;
 #[derive(Clone, Copy, Debug, PartialEq, Eq)]
 pub enum Accepted {
     /// The point is held now: it is the first, or strictly cheaper than the one held before.
+    // A pair, as every cost and bound is, by a rule of the project.
     Taken((i64, i64)),
     /// The point is admitted and no cheaper than the held one, which stays.
     Kept((i64, i64)),

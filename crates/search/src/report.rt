@@ -17,6 +17,7 @@ pub enum Verdict {
 #[derive(Clone, Copy, PartialEq, Eq, Debug)]
 pub struct Report {
     pub verdict: Verdict,
+    // A pair, as every cost and bound is, by a rule of the project.
     pub cost: Option<(i64, i64)>,
     pub open: usize,
     pub splits: u32,

@@ -59,7 +59,7 @@ fn bound(numerator: i64, denominator: i64) -> Told {
 const UNTOUCHED: Result<Accepted, Fault> = Err(Fault::List(ListFault::Kind));
 
 // The numbers, and then zeros up to N.
-// Also in the tests of files: a crate for two small helpers of tests would be no plainer.
+// Also in the tests of files: a crate for two small functions would be no plainer.
 fn padded<const N: usize>(numbers: &[i32]) -> [i32; N] {
     let mut list = [0; N];
     for (place, number) in list.iter_mut().zip(numbers) {
@@ -76,7 +76,7 @@ fn proof(numbers: &[i32]) -> [i32; 17] {
     padded(numbers)
 }
 
-// Also in the tests of limits: a crate for two small helpers of tests would be no plainer.
+// Also in the tests of limits: a crate for two small functions would be no plainer.
 fn denial_of(fault: Fault) -> Denied {
     let Denial {
         number,
@@ -90,6 +90,7 @@ fn passed<T>(res: Result<T, Fault>) -> Result<T, Denied> {
     res.map_err(denial_of)
 }
 
+// The program `selector` makes its sample alike: a crate for one small function would be no plainer.
 fn drafted<C: Cost + Drop>(cost: C, header: &[i32], rows: &[[i32; 11]]) -> Result<Draft<C>, Fault> {
     let mut draft = Draft::new(cost);
     draft.header(header)?;

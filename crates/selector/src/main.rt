@@ -9,6 +9,7 @@ use family::point::Point;
 use family::proof::Proof;
 use family::side::Side;
 use family::sides::Sides;
+use family::sizes::{HEADER_NUMBERS, ROW_NUMBERS};
 use linear::linear_costs::LinearCosts;
 use problem::cost::{Cost, Linear, Squares};
 use problem::draft::Draft;
@@ -16,12 +17,12 @@ use squares::least_squares::LeastSquares;
 use std::io;
 
 // Two quantities and the gap 0; squares have no rates, and the linear rates are 2 and 1.
-const SQUARES_HEADER: [i32; 10] = [2, 0, 0, 0, 0, 0, 0, 0, 0, 0];
+const SQUARES_HEADER: [i32; HEADER_NUMBERS] = [2, 0, 0, 0, 0, 0, 0, 0, 0, 0];
 
-const LINEAR_HEADER: [i32; 10] = [2, 0, 2, 1, 0, 0, 0, 0, 0, 0];
+const LINEAR_HEADER: [i32; HEADER_NUMBERS] = [2, 0, 2, 1, 0, 0, 0, 0, 0, 0];
 
 // Switches 0 to 3 and 0 to 4 on the quantities, and their sum from 3 on.
-const ROWS: [[i32; 11]; 3] = [
+const ROWS: [[i32; ROW_NUMBERS]; 3] = [
     [2, 0, 3, 1, 0, 0, 0, 0, 0, 0, 0],
     [2, 0, 4, 0, 1, 0, 0, 0, 0, 0, 0],
     [1, 3, 10_000, 1, 1, 0, 0, 0, 0, 0, 0],
@@ -50,7 +51,8 @@ const LINEAR_PROOFS: [OfferedProof; 5] = [
     ([1, -2, -1, 0], Some((2, Side::Upper))),
 ];
 
-// The sample problem as a draft of a cost.
+// The sample problem as a draft of a cost. The tests of searches make theirs alike: a crate for one small function would be no
+// plainer.
 fn sample<C: Cost + Drop>(cost: C, header: &[i32]) -> Result<Draft<C>, Fault> {
     let mut draft = Draft::new(cost);
     draft.header(header)?;

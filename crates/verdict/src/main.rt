@@ -1,15 +1,14 @@
 // Reads a problem file from standard input and prints what became of each call, and the verdict.
 #![tactic(auto)]
 
-use file::call::LARGEST;
+use file::call::{BYTES, LARGEST};
 use judge::judged::Judged;
 use judge::judging::judge;
 use std::io;
 use std::io::Read;
 
-// One byte more than the largest file, whose records have eighty bytes each: so much input is no file, and need not be
-// read to its end.
-const TOO_MUCH: u64 = 80 * LARGEST as u64 + 1;
+// One byte more than the largest file: so much input is no file, and need not be read to its end.
+const TOO_MUCH: u64 = (BYTES * LARGEST + 1) as u64;
 
 // What comes from standard input, up to so much.
 fn read_input(rt: &HostRuntime) -> io::Result<Vec<u8>> {

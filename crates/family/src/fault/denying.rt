@@ -42,7 +42,7 @@ impl fmt::Display for Denial {
     }
 }
 
-// `From` by hand: a derive gives no contract, and the contracts above name the fault that `?` makes.
+// `From` by hand: a derive gives no contract, and the contracts of the crates above name the fault that `?` makes.
 impl From<ListFault> for Fault {
     ghost from_gives = { λ e r. r ≡ List e };
 

@@ -4,7 +4,7 @@ ghost use Rattle.family.specs.Lists.{length_of, limits_at, around, in_use, withi
 
 use crate::fault::ListFault;
 use crate::shape::{Limits, Shape};
-use crate::sizes::{POINT_NUMBERS, PROOF_NUMBERS};
+use crate::sizes::{HEADER_NUMBERS, POINT_NUMBERS, PROOF_NUMBERS, ROW_NUMBERS};
 
 impl Limits {
     // From -bound to bound.
@@ -55,8 +55,8 @@ impl Shape {
         match self {
             Shape::Point { .. } => POINT_NUMBERS,
             Shape::Proof { .. } => PROOF_NUMBERS,
-            Shape::Header { .. } => 10,
-            Shape::Row { .. } => 11,
+            Shape::Header { .. } => HEADER_NUMBERS,
+            Shape::Row { .. } => ROW_NUMBERS,
         }
     }
 

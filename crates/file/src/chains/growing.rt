@@ -13,6 +13,7 @@ use crate::fault::{FileFault, InRecord};
 use crate::kinds::CallKind;
 use crate::records::Record;
 use family::fault::Fault;
+use family::sizes::ROW_NUMBERS;
 use problem::cost::Cost;
 use problem::draft::Draft;
 use problem::kind::Kind;
@@ -50,11 +51,11 @@ impl<C: Cost> Grows for Draft<C> {
     ghost added = { row_added };
 
     fn add(&mut self, entry: &Record) -> Result<(), FileFault> {
-        // Only whether there is such a kind is asked here, so there is no kind that `?` could hand on.
+        // No `map_err` with `?`: the proof did not close over what the closure makes of the fault.
         if Kind::try_from(entry.word(1)).is_err() {
             return Err(FileFault::Kind { at: entry.at });
         }
-        let list: [i32; 11] = entry.list(1)?;
+        let list: [i32; ROW_NUMBERS] = entry.list(1)?;
         in_record(entry.at, self.add_row(&list))
     }
 }

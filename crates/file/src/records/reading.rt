@@ -7,10 +7,10 @@ ghost use Rattle.file.specs.Records.{cell, unused, listed};
 ghost use Rattle.file.specs.Walks.{reached_in, New, Counts, words_in, words_of, first_word, Names};
 ghost use Rattle.file.specs.Words.{span};
 
-use crate::call::LARGEST;
+use crate::call::{BYTES, LARGEST};
 use crate::fault::FileFault;
 use crate::reached::Reached;
-use crate::records::{BYTES, Chain, Record, Records, WORDS};
+use crate::records::{Chain, Record, Records, WORDS};
 use crate::words;
 
 impl Record<'_> {

@@ -202,6 +202,7 @@ fn headers_after_a_row(rt: HostRuntime) {
     let mut draft = Draft::new(Squares);
     let _ = draft.header(&header);
     let _ = draft.add_row(&row);
+    // The loop stands in the next test, too, over lists of another length: a closure over both would be no plainer.
     for (changes, answer) in &LATE_HEADERS {
         let got = answer_to(draft.header(&list_of::<10>(changes)));
         check_answer(&rt, got, *answer, changes);

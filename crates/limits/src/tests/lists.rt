@@ -58,6 +58,7 @@ static PROOFS: [Case; 19] = [
     (2, &[(6, 1), (17, 1_001)], Some((3, 6, LIST))),
 ];
 
+// Two tests, alike: their lists differ in length, and a closure over both would be no plainer.
 #[test]
 fn points(rt: HostRuntime) {
     for (n, changes, answer) in &POINTS {

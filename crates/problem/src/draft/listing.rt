@@ -5,6 +5,7 @@ ghost use Rattle.problem.specs.Listings.{header_list, listed_row};
 
 use crate::cost::Cost;
 use crate::draft::Draft;
+use family::sizes::{HEADER_NUMBERS, ROW_NUMBERS};
 
 impl<C: Cost> Draft<C> {
     /// The number of rows, m.
@@ -16,7 +17,7 @@ impl<C: Cost> Draft<C> {
     }
 
     /// The ten numbers that a header takes for this draft; rates are 0 where the cost has none.
-    pub fn header_list(&self) -> [i32; 10]
+    pub fn header_list(&self) -> [i32; HEADER_NUMBERS]
         ensures { result ≡ header_list (C.Cost.rated self.now.cost) (data_of self.now) }
     {
         let n = self.problem.quantities() as i32;
@@ -30,7 +31,7 @@ impl<C: Cost> Draft<C> {
 
     /// The eleven numbers that an added row takes for the row with this index; a plain row of zeros beyond the
     /// table.
-    pub fn row_list(&self, index: usize) -> [i32; 11]
+    pub fn row_list(&self, index: usize) -> [i32; ROW_NUMBERS]
         ensures { result ≡ listed_row (data_of self.now) index }
     {
         let row = self.problem.row(index);

@@ -40,6 +40,7 @@ impl Matrix {
     pub(crate) fn coefficients(&self, row: usize) -> [i32; QUANTITIES]
         ensures { result ≡ cond (nat_lt row 16) (row_cells self.now.cells row) (replicate 8 (pos 0)) }
     {
+        // Copied, and not by `try_from`, which would answer a Result that cannot fail here.
         let mut coefficients = [0; QUANTITIES];
         if let Some(cells) = self.row(row) {
             coefficients.copy_from_slice(cells);

@@ -13,6 +13,7 @@ impl Problem {
         ensures some { 1 ≤ result }
         ensures few { result ≤ 8 }
     {
+        // A plain number with its limits: it is read as a count wherever it is used.
         self.n
     }
 

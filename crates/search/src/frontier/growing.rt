@@ -85,7 +85,7 @@ impl Frontier {
         requires loose { OnTop (λ s. s row ≡ None) (nodes_of self.old) }
         ensures { Forked row side self.old self.new }
     {
-        // An index with its limit and no type of its own: it would be made by the one caller and taken apart here.
+        // An index with its limit and no type of its own: it would be made by the one caller and only handed on to `SignedRow::of`.
         let top = self.top();
         let depth = top.depth + 1;
         let named = SignedRow::of(row, side);
