@@ -1,15 +1,13 @@
 // From a proof to its dual quantities.
-ghost use Rattle.std.specs.Prelude.{◌≡◌, ◌≤◌, ◌&&◌, true, pos, int_lt, MatchOption, unsigned_abs};
-ghost use Rattle.family.specs.Numbers.{at};
+ghost use Rattle.std.specs.Prelude.{◌≡◌, ◌≤◌, true, MatchOption, unsigned_abs};
 ghost use Rattle.family.specs.Points.{numerator_of};
 ghost use Rattle.family.specs.Reading.{side_of};
 ghost use Rattle.problem.specs.Programs.{program};
 ghost use Rattle.rows.specs.Duals.{met_end, level_of, is_void};
-ghost use Rattle.rows.specs.Zeros.{all_zero};
 ghost use Rattle.rows.specs.Readings.{HasDuals};
 
 use crate::column_sums::ColumnSums;
-use crate::duals::Duals;
+use crate::duals::{Duals, is_void};
 use crate::products::dot;
 use crate::restriction::Restriction;
 use family::proof::Proof;
@@ -40,19 +38,8 @@ impl Restriction<'_> {
     pub fn duals(&self, proof: &Proof) -> Option<Duals>
         ensures { MatchOption result (is_void (program self.now.problem.now) (side_of self.now.sides) (numerator_of proof.now) ≡ true) (HasDuals (program self.now.problem.now) (side_of self.now.sides) (numerator_of proof.now)) }
     {
-        let duals = Duals {
-            columns: ColumnSums::of(self.problem, proof),
-            level: self.level(proof),
-        };
-        (!duals.is_void()).then_some(duals)
-    }
-}
-
-impl Duals {
-    /// Whether a proof with these dual quantities is void: it shows that no point is admitted.
-    pub fn is_void(&self) -> bool
-        ensures { result ≡ (all_zero 8 (at self.now.columns.sums) && int_lt self.now.level (pos 0)) }
-    {
-        self.columns.all_zero() && self.level < 0
+        let columns = ColumnSums::of(self.problem, proof);
+        let level = self.level(proof);
+        (!is_void(&columns, level)).then_some(Duals { columns, level })
     }
 }

@@ -19,7 +19,7 @@ returns c =
     let p = c.args.self.now.problem.now in
     let s = side_of c.args.self.now.sides in
     let y = numerator_of c.args.proof.now in
-    let level = result_back 160000000 c.level.ensures.value c.level.ensures.near (omega arith) in
-    let void = c.is_void.ensures ∙ void_read p y c.of.result.sums c.of.ensures.sums s level in
+    let level = result_back 160000000 c.level-level.ensures.value c.level-level.ensures.near (omega arith) in
+    let void = c.is_void.ensures ∙ void_read p y c.of-columns.result.sums c.of-columns.ensures.sums s level in
     subst (λ o. MatchOption o (is_void (program p) s y ≡ true) (HasDuals (program p) s y)) (sym c.then_some.ensures)
-    (kept_unless (HasDuals (program p) s y) c.is_void.result _ (λ v. sym void ∙ v) (λ v. record { unsettled = sym void ∙ v; columns = c.of.ensures.sums; level = level }))
+    (kept_unless (HasDuals (program p) s y) c.is_void.result _ (λ v. sym void ∙ v) (λ v. record { unsettled = sym void ∙ v; columns = c.of-columns.ensures.sums; level = level }))
