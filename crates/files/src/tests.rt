@@ -54,7 +54,10 @@ fn sample() -> [Record; 8] {
 fn changed(changes: Changes) -> [Record; 8] {
     let mut records = sample();
     for (at, word, number) in changes {
-        if let Some(cell) = records.get_mut(*at).and_then(|record| record.get_mut(*word)) {
+        if let Some(cell) = records
+            .get_mut(*at)
+            .and_then(|record| record.get_mut(*word))
+        {
             *cell = *number;
         }
     }
