@@ -113,6 +113,8 @@ fn no_node_is_open(rt: HostRuntime) -> Result<(), Fail> {
     check_denied(&rt, search.proof(&void), (12, 0, SEARCH))?;
     check_denied(&rt, search.split(1, 0), (12, 0, SEARCH))?;
     check_denied(&rt, search.advise(&point(&[2, 3, 3])), (12, 0, SEARCH))?;
+    // A point needs no open node: this one is stopped by the third row.
+    check_denied(&rt, search.point(&point(&[1, 3, 4])), (7, 3, FAMILY))?;
     check_end(&rt, search, (NOTHING, None, 0, 0, 1), &[])
 }
 
