@@ -3,7 +3,7 @@
 
     problem_file.py write TEXT FILE    make FILE from TEXT
     problem_file.py show FILE          print FILE as text that `write` takes
-    problem_file.py dump FILE          print the records of FILE, twenty words to a line, also of a broken file
+    problem_file.py dump FILE          print the records of FILE, twenty words to a line, whatever they hold
     problem_file.py pack DUMP FILE     make FILE from such lines
 
 The text has one thing on a line; what follows a # is a remark:
@@ -106,7 +106,7 @@ def bytes_of(records):
 
 
 def records_in(data):
-    if len(data) % 80:
+    if not data or len(data) % 80:
         raise Wrong(f"{len(data)} bytes are no whole number of records")
     return [list(struct.unpack_from("<20i", data, 80 * r)) for r in range(len(data) // 80)]
 
@@ -150,6 +150,13 @@ def read(path):
         return file.read()
 
 
+def text_in(path):
+    try:
+        return read(path).decode()
+    except UnicodeDecodeError as error:
+        raise Wrong(f"{path} is no text: {error}") from error
+
+
 def save(path, data):
     with open(path, "wb") as file:
         file.write(data)
@@ -157,14 +164,14 @@ def save(path, data):
 
 def main(words):
     if len(words) == 3 and words[0] == "write":
-        save(words[2], bytes_of(records_of(read(words[1]).decode())))
+        save(words[2], bytes_of(records_of(text_in(words[1]))))
     elif len(words) == 2 and words[0] == "show":
         print("\n".join(text_of(records_in(read(words[1])))))
     elif len(words) == 2 and words[0] == "dump":
         for record in records_in(read(words[1])):
             print(" ".join(str(z) for z in record))
     elif len(words) == 3 and words[0] == "pack":
-        rows = [padded([number(w) for w in ws], WORDS) for _, ws in lines_of(read(words[1]).decode())]
+        rows = [padded([number(w) for w in ws], WORDS) for _, ws in lines_of(text_in(words[1]))]
         save(words[2], bytes_of(rows))
     else:
         print(__doc__, file=sys.stderr)
