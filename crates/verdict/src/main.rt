@@ -1,6 +1,9 @@
 // Reads a problem file from standard input and prints what became of each call, and the verdict.
 #![tactic(auto)]
 
+ghost use Rattle.std.specs.Prelude.{ℕ, ◌≤◌, IfOk, length};
+
+use arrayvec::ArrayVec;
 use file::call::{BYTES, LARGEST};
 use judge::judged::Judged;
 use judge::judging::judge;
@@ -8,13 +11,14 @@ use std::io;
 use std::io::Read;
 
 // One byte more than the largest file: so much input is no file, and need not be read to its end.
-const TOO_MUCH: u64 = (BYTES * LARGEST + 1) as u64;
+const TOO_MUCH: usize = BYTES * LARGEST + 1;
 
-// What comes from standard input, up to so much.
-fn read_input(rt: &HostRuntime) -> io::Result<Vec<u8>> {
-    let mut bytes = Vec::new(rt.alloc());
-    rt.stdin().take(TOO_MUCH).read_to_end(&mut bytes)?;
-    Ok(bytes)
+// What comes from standard input, up to so much. It lies in fixed memory: there is no want of memory for it.
+fn read_input<'a>(rt: &HostRuntime, buffer: &'a mut ArrayVec<u8, TOO_MUCH>) -> io::Result<&'a [u8]>
+    ensures { IfOk result (λ bytes. length bytes.now ≤ 65521) }
+{
+    io::copy(&mut rt.stdin().take(TOO_MUCH as u64), buffer)?;
+    Ok(buffer.as_slice())
 }
 
 fn print_judged(rt: &HostRuntime, judged: &Judged) -> io::Result<()> {
@@ -26,8 +30,8 @@ fn print_judged(rt: &HostRuntime, judged: &Judged) -> io::Result<()> {
 }
 
 fn main(rt: HostRuntime) -> anyhow::Result<()> {
-    let bytes = read_input(&rt)?;
-    match judge(&bytes) {
+    let mut buffer = ArrayVec::new();
+    match judge(read_input(&rt, &mut buffer)?) {
         Ok(judged) => print_judged(&rt, &judged)?,
         Err(fault) => println!(rt; "{fault}")?,
     }
