@@ -20,11 +20,14 @@ pub struct ColumnSums {
     ghost near: { Small 800000 sums },
 }
 
-// The sum over the rows of coefficient times multiplier in one column.
+// The sum over the rows of coefficient times multiplier in one column. That of a column not in use is 0, and is not added up.
 fn column_sum(problem: &Problem, proof: &Proof, column: usize) -> i64
     ensures value { result ≡ column_sum (program problem.now) (numerator_of proof.now) column }
     ensures near { unsigned_abs result ≤ 800000 }
 {
+    if column >= problem.quantities() {
+        return 0;
+    }
     dot::<50, 1_000, _, _>(
         problem.row_count(),
         |row| problem.coefficient(row, column),
