@@ -7,10 +7,10 @@ pub(crate) fn get(bytes: &[u8], k: usize) -> i32
     requires { 4 * k + 4 ≤ length bytes.now }
     ensures { result ≡ word bytes.now k }
 {
-    // Copied, and not by `try_from`, which would answer a Result that cannot fail here.
-    let mut word = [0; 4];
-    word.copy_from_slice(&bytes[4 * k..4 * k + 4]);
-    i32::from_le_bytes(word)
+    let Some(word) = bytes[4 * k..].first_chunk() else {
+        unreachable!()
+    };
+    i32::from_le_bytes(*word)
 }
 
 // Fills the place with words from word k on.

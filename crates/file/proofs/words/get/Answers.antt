@@ -1,6 +1,8 @@
-use Rattle.std.proofs.Common.{rules}
+use Rattle.std.proofs.Common.{◌-◌, ◌*◌, length, arith, rules}
 use Rattle.file.proofs.Bytes.{get_four}
 use Rattle.file.proofs.words.get.Goals as goal
 
 pub returns : goal.returns
-returns c = get_four c.args.bytes.now _ c.args.k (search rules) c.copy_from_slice.ensures.after c.from_le_bytes.ensures
+returns c =
+    let bs = c.args.bytes.now in
+    get_four bs c.in-Some.word.now c.args.k (length bs - 4 * c.args.k) (search rules) (omega (arith, c.requires)) c.in-Some.ensures.cases.same c.from_le_bytes.ensures
