@@ -1,7 +1,8 @@
 -- The laws of the family of linear problems.
-use Rattle.std.specs.Prelude.{◌≡◌, ℕ, zero, suc, ◌+◌, ◌*◌, ◌<◌, ◌≤◌, Bool, true, false, cond, List, ℤ, pos, ◌*ℤ◌, neg_ℤ, ◌≤ℤ◌, Some, None, Ok, Err, Option, unsigned_abs, refl}
+use Rattle.std.specs.Prelude.{◌≡◌, ℕ, zero, suc, ◌+◌, ◌*◌, ◌<◌, ◌≤◌, Bool, true, false, cond, List, ℤ, pos, ◌-ℤ◌, ◌*ℤ◌, neg_ℤ, ◌≤ℤ◌, Some, None, Ok, Err, Option, unsigned_abs, refl}
 use Rattle.std.proofs.Common.{sym, ◌∙◌, ap, subst, arith}
 use Rattle.std.proofs.Math.IntN.{*ℤ_comm}
+use Rattle.std.specs.Int.{w64}
 use Rattle.std.proofs.lemmas.Int.{ints}
 use Rattle.sums.specs.Sums.{total, dot}
 use Rattle.sums.proofs.Ring.{diff_of, diff_same, as_diff, linear}
@@ -14,7 +15,7 @@ use Rattle.family.specs.Fractions.{Fraction, Fair, at_most}
 use Rattle.family.specs.Meaning.{Laws}
 use Rattle.family.specs.Numbers.{at, Small, same}
 use Rattle.family.specs.Points.{AnyPoint, AnyProof, OfferedPoint, OfferedProof}
-use Rattle.family.proofs.Casts.{product_near}
+use Rattle.family.proofs.Casts.{back, product_near}
 use Rattle.problem.specs.declared.table.Problem.{Problem}
 use Rattle.problem.specs.Programs.{Program, program}
 use Rattle.rows.specs.Duals.{column_sum, level_of, is_void}
@@ -23,11 +24,30 @@ use Rattle.rows.proofs.Admission.{same_is, admitted_freed, admitted_fixed, admit
 use Rattle.std.specs.Result.{result_and}
 use Rattle.rows.specs.Claims.{PlainMeaning}
 use Rattle.rows.proofs.Plainness.{admitted_keeps, keeps_admitted, admitted_same, admission_same, void_same, level_same}
-use Rattle.rows.proofs.Searches.{failing_none, failing_inside}
+use Rattle.rows.proofs.Searches.{failing_none, failing_inside, failing_same}
 use Rattle.rows.proofs.Sizes.{level_near, sum_near}
 use Rattle.rows.proofs.Voids.{holds, switch_inside, void_none, price_taken, price_given, price_row}
-use Rattle.linear.specs.Bounds.{balancing, off_balance, bound, balanced, judgement, meaning_of}
+use Rattle.linear.specs.Bounds.{first_difference, balancing, off_balance, bound, balanced, judgement, meaning_of}
 use Rattle.linear.specs.Costs.{cost}
+
+-- ---- the judgement of a proof
+module _ (P : Program) (rates : ℕ → ℤ) (s : ℕ → Option Side) (scale : ℕ) (y : ℕ → ℤ) where
+  pub judged_void : is_void P s y ≡ true → Ok Void ≡ judgement P rates s scale y
+  judged_void e = sym (ap (λ b. cond b (Ok Void) (balanced (off_balance P rates scale y) (bound P s scale y))) e)
+
+  pub judged_off : {o : Option ℕ} {b : Fraction} → is_void P s y ≡ false → o ≡ off_balance P rates scale y → b ≡ bound P s scale y → balanced o b ≡ judgement P rates s scale y
+  judged_off e same_o same_b = (λ i. balanced (same_o i) (same_b i)) ∙ sym (ap (λ b. cond b (Ok Void) (balanced (off_balance P rates scale y) (bound P s scale y))) e)
+
+  -- the sums that the code holds
+  pub off_read : (sums : List ℤ) {o : Option ℕ} → ((j : ℕ) → j < P.n → at sums j ≡ column_sum P y j) → o ≡ first_difference (at sums) (balancing scale rates) 0 P.n → o ≡ off_balance P rates scale y
+  off_read sums columns e = e ∙ failing_same (λ j. same (at sums j) (balancing scale rates j)) (λ j. same (column_sum P y j) (balancing scale rates j)) 0 P.n (λ k h. ap (λ z. same z (balancing scale rates k)) (columns k (omega arith)))
+
+-- `-level` at 64 bits
+pub minus_read : {l z : ℤ} → l ≡ z → unsigned_abs z ≤ 160000000 → back w64 (pos 0 -ℤ l) ≡ neg_ℤ z
+minus_read {l} {z} e h = ap (λ l. back w64 (pos 0 -ℤ l)) e ∙ minus z h
+  where
+    minus : (z : ℤ) → unsigned_abs z ≤ 160000000 → back w64 (pos 0 -ℤ z) ≡ neg_ℤ z
+    minus z h = omega (arith, ints)
 
 -- ---- what a judgement tells
 void_only : (b : Bool) (o : Option ℕ) (f : Fraction) → cond b (Ok Void) (balanced o f) ≡ Ok Void → b ≡ true

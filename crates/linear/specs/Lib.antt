@@ -1,3 +1,4 @@
 pub mod Costs
 pub mod Bounds
 pub mod Laws
+pub mod Balances
