@@ -110,10 +110,12 @@ fn show_proof<F: Family>(
     (proof, fixed): OfferedProof,
 ) -> io::Result<()> {
     let [s, a, b, c] = proof;
-    print!(rt; "proof {s}; {a}, {b}, {c} ")?;
-    if let Some((row, side)) = fixed {
-        let word = word_of(side);
-        print!(rt; "with row {row} {word} ")?;
+    match fixed {
+        Some((row, side)) => {
+            let word = word_of(side);
+            print!(rt; "proof {s}; {a}, {b}, {c} with row {row} {word} ")?;
+        }
+        None => print!(rt; "proof {s}; {a}, {b}, {c} ")?,
     }
     let list = [s, a, b, c, 0, 0, 0, 0, 0, 0, 0, 0, 0, 0, 0, 0, 0];
     match judge_proof(family, sides_of(fixed), &list) {
