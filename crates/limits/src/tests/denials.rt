@@ -33,3 +33,12 @@ fn each_fault_is_told(rt: HostRuntime) {
         assert_eq!(rt; told(*fault), *answer);
     }
 }
+
+/// What the layers are as numbers.
+#[test]
+fn layers_keep_their_numbers(rt: HostRuntime) {
+    assert_eq!(rt; Layer::List as u8, 0);
+    assert_eq!(rt; Layer::Family as u8, 1);
+    assert_eq!(rt; Layer::Search as u8, 2);
+    assert_eq!(rt; Layer::File as u8, 3);
+}

@@ -102,3 +102,11 @@ fn a_place_of_another_length(rt: HostRuntime) -> Result<(), Fail> {
     check_refused(&rt, &mut short)?;
     check_outcomes(&rt, short, [Err((5, 1, LIST)); 1])
 }
+
+/// What the verdicts are as numbers.
+#[test]
+fn verdicts_keep_their_numbers(rt: HostRuntime) {
+    assert_eq!(rt; STOPPED as u8, 0);
+    assert_eq!(rt; BEST as u8, 1);
+    assert_eq!(rt; NOTHING as u8, 2);
+}
